@@ -1,0 +1,4 @@
+pub mod Floor
+pub mod Clamp
+pub mod Wrap
+pub mod Sum

@@ -1,0 +1,4 @@
+pub mod Wide
+pub mod Shift
+pub mod Normal
+pub mod Laws
