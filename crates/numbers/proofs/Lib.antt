@@ -6,3 +6,4 @@ pub mod Floor
 pub mod Clamp
 pub mod Wrap
 pub mod Sum
+pub mod Scale

@@ -135,4 +135,21 @@ eq (pos a) (negsuc b) e = absurd (omega arith)
 eq (negsuc a) (pos b) e = absurd (omega arith)
 eq (negsuc a) (negsuc b) e = ap negsuc (omega arith)
 
-pub ruleset zarith = (arith, lt-yes, lt-no, le-yes, le-no, le-rec, lt-rec, in-range, non-negative, le, lt, eq)
+-- ---- and a test's outcome
+is-false : (t : Bool) → (t ≡ true → ⊥) → t ≡ false
+is-false true h = absurd (h refl)
+is-false false h = refl
+
+pub lt-true : (a b : ℤ) → up a + down b < up b + down a → ltZ a b ≡ true
+lt-true a b h = is-true (ltZ a b) (lt-test a b h)
+
+pub lt-false : (a b : ℤ) → up b + down a ≤ up a + down b → ltZ a b ≡ false
+lt-false a b h = is-false (ltZ a b) (λ e. omega (arith, lt-yes a b e))
+
+pub le-true : (a b : ℤ) → up a + down b ≤ up b + down a → leZ a b ≡ true
+le-true a b h = is-true (leZ a b) (le-test a b h)
+
+pub le-false : (a b : ℤ) → up b + down a < up a + down b → leZ a b ≡ false
+le-false a b h = is-false (leZ a b) (λ e. omega (arith, le-yes a b e))
+
+pub ruleset zarith = (arith, lt-yes, lt-no, le-yes, le-no, le-rec, lt-rec, in-range, non-negative, le, lt, eq, lt-true, lt-false, le-true, le-false)

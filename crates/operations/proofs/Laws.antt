@@ -17,7 +17,7 @@ use Rattle.numbers.proofs.Magnitude.{abs-*, abs-fits}
 use Rattle.numbers.proofs.Floor.{Division, shift, floor-fits}
 use Rattle.numbers.proofs.Clamp.{clamp-fits, clamp-in}
 use Rattle.numbers.proofs.Wrap.{Congruent, wrap-fits, wrap-congruent, wrap-only, wrap-in}
-use Rattle.operations.specs.Operations.{add, sub, L-add, L-sub, mult, mult-r, L-mult, abs, shiftLeft, shiftRight, over, div}
+use Rattle.operations.specs.Operations.{add, sub, L-add, L-sub, mult, mult-r, L-mult, abs, shiftLeft, shiftRight, short, over, div}
 
 -- ---- "Sums and differences saturate at 16 or 32 bits": in the range, and exact where the exact number is in it
 pub add-fits : (x y : ℤ) → SFits w16 (add x y)
@@ -120,6 +120,15 @@ module _ (w : Width) where
   opposite x (pos zero) f = ap (wrap w) (once x) ∙ wrap-in w f ∙ sym (by-one x)
   opposite x (pos (suc n)) f = refl
   opposite x (negsuc n) f = refl
+
+-- ---- the low 16 bits
+pub short-fits : (x : ℤ) → SFits w16 (short x)
+unfolding short
+short-fits x = wrap-fits w16 x
+
+pub short-exact : {x : ℤ} → SFits w16 x → short x ≡ x
+unfolding short
+short-exact f = wrap-in w16 f
 
 -- ---- "Division of 0 by anything, 0 included, is 0; of equal positive numbers, 32767; of a smaller by a larger, 32768 times the first over
 -- the second, rounded down"

@@ -4,18 +4,18 @@ use mathlib.Core.Bool.{true, false}
 use Prim.Native.Nat.{ℕ, suc, _+_, _-_, _*_, _/_, _^_, _<_, _≤_}
 use native.Mathlib.Nat.{div-eq-of-lt, lt-of-lt-of-le}
 use native.Mathlib.Omega.{arith}
-use lib.IntN.{ℤ, natAbs, pos, negsuc, negℤ, _+ℤ_, _*ℤ_}
+use lib.IntN.{ℤ, natAbs, pos, negsuc, _+ℤ_, _-ℤ_, _*ℤ_}
 use lib.Signed.{ltZ, shrZ}
 use lib.Pow.{pow-mono, pow-add, pow-pos}
-use mir.Syntax.{Width}
+use mir.Syntax.{Width, w16, w32}
 use mir.Val.{SFits, bits, hbits, toZ, ofZ}
-use mir.Facts.{toZ-ofZ, sfits-lit}
+use mir.Facts.{toZ-ofZ}
 use Rattle.numbers.specs.Wrap.{wrap}
 use Rattle.operations.specs.Operations.{shiftLeft, shiftRight}
-use Rattle.numbers.proofs.Parts.{zarith, lt-yes, lt-no}
-use Rattle.numbers.proofs.Poly.{v, _⊕_, _⊗_, ring}
-use Rattle.numbers.proofs.Floor.{floor-fits}
-use Rattle.numbers.proofs.Wrap.{wrap-only, wrap-in}
+use Rattle.numbers.proofs.Parts.{zarith, same, lt-yes, lt-no}
+use Rattle.numbers.proofs.Poly.{v, _⊕_, _⊖_, _⊗_, poly, ring}
+use Rattle.numbers.proofs.Floor.{floor-fits, floor-mag, floor-only}
+use Rattle.numbers.proofs.Wrap.{wrap-fits, wrap-congruent, wrap-only}
 
 module _ (w : Width) (x : ℤ) where
   -- by the width or more to the left, nothing is left
@@ -62,3 +62,21 @@ module _ (w : Width) (x : ℤ) where
   unfolding shiftRight
   right-opposite (pos n) t = absurd (omega (zarith, lt-yes (pos n) (pos 0) t))
   right-opposite (negsuc n) t = refl
+
+-- ---- up and down again by 16 leaves the low 16 bits of 32
+top-fits : (L : ℤ) → SFits w32 L → SFits w16 (shrZ L (2 ^ 16))
+top-fits L f = record { sfits = omega (arith, floor-mag L 65536, f .sfits) }
+
+pub low-fits : (x : ℤ) → SFits w16 (shrZ (wrap w32 (x *ℤ pos (2 ^ 16))) (2 ^ 16))
+low-fits x = top-fits (wrap w32 (x *ℤ pos (2 ^ 16))) (wrap-fits w32 (x *ℤ pos (2 ^ 16)))
+
+pub low-is : (x : ℤ) → shrZ (wrap w32 (x *ℤ pos (2 ^ 16))) (2 ^ 16) ≡ wrap w16 x
+low-is x =
+    let K = pos 65536 in
+    let L = wrap w32 (x *ℤ K) in
+    let h = wrap-congruent w32 (x *ℤ K) in
+    let t = h .turns in
+    let q = x -ℤ K *ℤ t in
+    let e : L ≡ K *ℤ q +ℤ pos 0 = omega (zarith, same (h .is), poly (v x ⊗ v K), poly (v L ⊕ v (pos 4294967296) ⊗ v t), poly (v K ⊗ (v x ⊖ v K ⊗ v t) ⊕ v (pos 0))) in
+    let d : q ≡ shrZ L 65536 = floor-only L 65536 q 0 (omega arith) (record { is = e; small = omega arith }) .0 in
+    wrap-only w16 (low-fits x) (record { turns = t; is = omega (zarith, same d, poly (v x ⊖ v K ⊗ v t), poly (v (shrZ L 65536) ⊕ v K ⊗ v t)) })

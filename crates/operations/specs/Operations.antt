@@ -63,6 +63,10 @@ x <<ₛ n = shiftLeft w16 x n
 abbrev pub _>>ₛ_ : ℤ → ℤ → ℤ
 x >>ₛ n = shiftRight w16 x n
 
+-- ---- `var2 = L_var1`: the low 16 bits of a long variable, as two's complement
+unfoldable pub short : ℤ → ℤ
+short x = wrap w16 x
+
 -- ---- the shift that brings the magnitude of a 32-bit number into 2^30..2^31-1, which is the number of zeros before its first digit
 -- when it is written with 31 digits; 0 for 0. A negative number has the norm of its magnitude (decided).
 unfoldable pub norm : ℤ → ℤ
@@ -70,12 +74,13 @@ norm (pos zero) = pos 0
 norm (pos (suc n)) = pos (leadingZeros 31 (suc n))
 norm (negsuc n) = pos (leadingZeros 31 (suc n))
 
--- ---- the quotient, in 32768ths, rounded down, at the end of the range where it is beyond. By 0 it is 0 for 0, and else the end of
--- the range on the side of x, as for any number that is small beside x (decided; so is the rounding of a negative quotient).
+-- ---- division. x over y, rounded down, where y is not 0; by 0 it is x, which `div` then puts at the end of the range unless it is 0
+-- (decided; so is the rounding of a quotient below 0)
 unfoldable pub over : ℤ → ℤ → ℤ
 over x (pos zero) = x
 over x (pos (suc n)) = shrZ x (suc n)
 over x (negsuc n) = shrZ (negℤ x) (suc n)
 
+-- the quotient in 32768ths
 unfoldable pub div : ℤ → ℤ → ℤ
 div x y = clamp w16 (over (x *ℤ pos 32768) y)

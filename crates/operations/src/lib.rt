@@ -92,8 +92,8 @@ pub fn l_mult(x: i16, y: i16) -> i32
     clamp32((product(x, y) as i64) * 2)
 }
 
-// The true magnitude, 2147483648 for the least number.
-fn magnitude(x: i32) -> u32
+// The true magnitude, 2147483648 for the least number: what bounds and validity speak of.
+pub fn magnitude(x: i32) -> u32
     ensures { λ r. ⌜ r ≡ natAbs x ⌝ }
 {
     if x < 0 {
@@ -193,6 +193,13 @@ pub fn l_shr(x: i32, n: i16) -> i32
         return left32(x, k);
     }
     right32(x, k)
+}
+
+// The low 16 bits of a long variable.
+pub fn short(x: i32) -> i16
+    ensures { λ r. ⌜ r ≡ op.short x ⌝ }
+{
+    right32(left32(x, 16), 16) as i16
 }
 
 // ---- norm

@@ -1,0 +1,74 @@
+// Clauses 6.5 and 6.9: how often a lag of the frame is near a multiple of the one before it.
+ghost use mathlib.Core.Path.{_≡_};
+ghost use Prim.Native.Nat.{min};
+ghost use lib.IntN.{pos};
+ghost use Rattle.lags.specs.Lags.{ptchOf, smallagOf, countedOf, onceOf, lagcountOf};
+
+// 6.5: whether the two frames before were periodic.
+pub fn ptch(oldlagcount: i16, veryoldlagcount: i16) -> bool
+    ensures { λ r. ⌜ r ≡ ptchOf oldlagcount veryoldlagcount ⌝ }
+{
+    oldlagcount as i32 + veryoldlagcount as i32 >= 4
+}
+
+// The larger lag's remainder by the smaller; by a lag of 0 there is nothing to take off.
+fn smallag(oldlag: u16, lag: u16) -> u16
+    ensures { λ r. ⌜ r ≡ smallagOf oldlag lag ⌝ }
+{
+    if oldlag < lag {
+        if oldlag == 0 {
+            return lag;
+        }
+        return lag % oldlag;
+    }
+    if lag == 0 {
+        return oldlag;
+    }
+    oldlag % lag
+}
+
+// The lesser of two lags.
+fn lesser(a: u16, b: u16) -> u16
+    ensures { λ r. ⌜ r ≡ min a b ⌝ }
+{
+    if a < b { a } else { b }
+}
+
+// Whether a lag counts beside the one before it.
+fn counted(oldlag: u16, lag: u16) -> bool
+    ensures { λ r. ⌜ r ≡ countedOf oldlag lag ⌝ }
+{
+    let small = smallag(oldlag, lag);
+    let least = lesser(oldlag, lag);
+    if small < 2 {
+        return true;
+    }
+    if least < small {
+        return true;
+    }
+    least - small < 2
+}
+
+// 1 for a lag that counts.
+fn once(oldlag: u16, lag: u16) -> u16
+    ensures { λ r. ⌜ r ≡ onceOf oldlag lag ⌝ }
+{
+    if counted(oldlag, lag) {
+        return 1;
+    }
+    0
+}
+
+// 6.9: how many of the four lags count.
+pub fn lagcount(oldlag: u16, lags: [u16; 4]) -> i16
+    ensures { λ r. ⌜ r ≡ pos (lagcountOf oldlag lags) ⌝ }
+{
+    let mut count: u16 = 0;
+    let mut last = oldlag;
+    for i in 0..4 {
+        let lag = lags[i];
+        count += once(last, lag);
+        last = lag;
+    }
+    count as i16
+}

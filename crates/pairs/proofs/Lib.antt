@@ -1,0 +1,3 @@
+pub mod Order
+pub mod Range
+pub mod Worth

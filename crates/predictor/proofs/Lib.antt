@@ -1,0 +1,4 @@
+pub mod Turns
+pub mod Predictor
+pub mod Autocorrelation
+pub mod Bounds

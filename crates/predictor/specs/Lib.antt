@@ -1,0 +1,3 @@
+pub mod Schur
+pub mod StepUp
+pub mod Filter

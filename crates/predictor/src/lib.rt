@@ -1,0 +1,218 @@
+// Clause 6.3: from the averaged autocorrelations of four frames before to the filter that whitens them.
+ghost use mathlib.Core.Path.{_≡_};
+ghost use Prim.Native.Nat.{_≤_};
+ghost use Rattle.rows.specs.Rows.{row};
+ghost use Rattle.predictor.specs.Schur as schur;
+ghost use Rattle.predictor.specs.StepUp as step;
+ghost use Rattle.predictor.specs.Filter as filter;
+use operations::abs;
+use operations::add;
+use operations::div;
+use operations::l_add;
+use operations::l_mult;
+use operations::l_shl;
+use operations::l_shr;
+use operations::mult_r;
+use operations::norm;
+use operations::sub;
+use rows::products;
+
+// The autocorrelation of the predictor, and its scaling.
+pub struct Filter {
+    pub rav1: [i16; 9],
+    pub normrav1: i16,
+}
+
+// ---- 6.3.1
+
+// Whether the recursion is left.
+fn leaves(p0: i16, p1: i16) -> bool
+    ensures { λ r. ⌜ r ≡ schur.leavesOf p0 p1 ⌝ }
+{
+    p0 < abs(p1)
+}
+
+// A reflection coefficient.
+fn coefficient(p0: i16, p1: i16) -> i16
+    ensures { λ r. ⌜ r ≡ schur.coefficientOf p0 p1 ⌝ }
+{
+    let q = div(abs(p1), p0);
+    if p1 > 0 {
+        return sub(0, q);
+    }
+    q
+}
+
+// One update of the recursion.
+fn turned(x: i16, y: i16, c: i16) -> i16
+    ensures { λ r. ⌜ r ≡ schur.turnedOf x y c ⌝ }
+{
+    add(x, mult_r(y, c))
+}
+
+// One entry of the array K.
+fn mirror_at(order: usize, sacf: [i16; 9], j: usize) -> i16
+    requires { ⌜ order ≤ 8 ⌝ }
+    ensures { λ r. ⌜ r ≡ schur.KOf order sacf j ⌝ }
+{
+    if j < 2 {
+        return 0;
+    }
+    if j > order {
+        return 0;
+    }
+    sacf[order + 1 - j]
+}
+
+// The array K at the start.
+fn mirrored(order: usize, sacf: [i16; 9]) -> [i16; 9]
+    requires { ⌜ order ≤ 8 ⌝ }
+    ensures { λ r. ⌜ r ≡ row 9 (schur.KOf order sacf) ⌝ }
+{
+    let mut out = [0i16; 9];
+    for j in 0..9 {
+        out[j] = mirror_at(order, sacf, j);
+    }
+    out
+}
+
+// The Schur recursion of an order up to 8.
+fn recursion(order: usize, sacf: [i16; 9]) -> [i16; 9]
+    requires { ⌜ order ≤ 8 ⌝ }
+    ensures { λ r. ⌜ r ≡ schur.schurOf order sacf ⌝ }
+{
+    let mut k = mirrored(order, sacf);
+    let mut p = sacf;
+    let mut v = [0i16; 9];
+    'outer: for n in 1..(order + 1) {
+        let a = p[0];
+        let b = p[1];
+        if leaves(a, b) {
+            break 'outer;
+        }
+        let c = coefficient(a, b);
+        v[n] = c;
+        if n == order {
+            break 'outer;
+        }
+        p[0] = turned(a, b, c);
+        for m in 1..(order + 1 - n) {
+            let x = p[m + 1];
+            let y = k[order + 1 - m];
+            p[m] = turned(x, y, c);
+            k[order + 1 - m] = turned(y, x, c);
+        }
+    }
+    v
+}
+
+// The averages in 16 bits: the left shift drops bits.
+fn sacf(av1: [i32; 9]) -> [i16; 9]
+    ensures { λ r. ⌜ r ≡ row 9 (schur.sacfOf av1) ⌝ }
+{
+    let temp = norm(av1[0]);
+    let mut out = [0i16; 9];
+    for k in 0..9 {
+        out[k] = l_shr(l_shl(av1[k], temp), 16) as i16;
+    }
+    out
+}
+
+// The reflection coefficients.
+pub fn vpar(av1: [i32; 9]) -> [i16; 9]
+    ensures { λ r. ⌜ r ≡ schur.vparOf av1 ⌝ }
+{
+    if av1[0] == 0 {
+        return [0i16; 9];
+    }
+    recursion(8, sacf(av1))
+}
+
+// ---- 6.3.2
+
+// One entry of the coefficients, one order up.
+fn raised_at(coef: [i32; 9], v: i16, m: usize, i: usize) -> i32
+    requires { ⌜ (m ≤ 8) × (i ≤ 8) ⌝ }
+    ensures { λ r. ⌜ r ≡ step.raisedOf coef v m i ⌝ }
+{
+    if i == m {
+        return l_shl(v as i32, 14);
+    }
+    if i == 0 {
+        return coef[i];
+    }
+    if i > m {
+        return coef[i];
+    }
+    let temp = l_shr(coef[m - i], 16) as i16;
+    l_add(coef[i], l_mult(v, temp))
+}
+
+// The coefficients, one order up.
+fn raised(coef: [i32; 9], v: i16, m: usize) -> [i32; 9]
+    requires { ⌜ m ≤ 8 ⌝ }
+    ensures { λ r. ⌜ r ≡ row 9 (step.raisedOf coef v m) ⌝ }
+{
+    let mut out = [0i32; 9];
+    for i in 0..9 {
+        out[i] = raised_at(coef, v, m, i);
+    }
+    out
+}
+
+// The coefficients after the order 8.
+fn coefficients(vpar: [i16; 9]) -> [i32; 9]
+    ensures { λ r. ⌜ r ≡ step.L-coefOf vpar 8 ⌝ }
+{
+    let mut coef = [0i32; 9];
+    coef[0] = l_shl(16384, 15);
+    for m in 1..9 {
+        coef = raised(coef, vpar[m], m);
+    }
+    coef
+}
+
+// The predictor in 13 bits.
+pub fn aav1(vpar: [i16; 9]) -> [i16; 9]
+    ensures { λ r. ⌜ r ≡ row 9 (step.aav1Of vpar) ⌝ }
+{
+    let coef = coefficients(vpar);
+    let mut out = [0i16; 9];
+    for i in 0..9 {
+        out[i] = l_shr(coef[i], 19) as i16;
+    }
+    out
+}
+
+// ---- 6.3.3
+
+// One entry of the autocorrelation.
+fn work(aav1: [i16; 9], i: usize) -> i32
+    requires { ⌜ i ≤ 8 ⌝ }
+    ensures { λ r. ⌜ r ≡ filter.L-workOf aav1 i ⌝ }
+{
+    let shifted = aav1;
+    products(&aav1[0..(9 - i)], &shifted[i..9])
+}
+
+// The autocorrelation, normalised by its first entry.
+pub fn whitened(aav1: [i16; 9]) -> Filter
+    ensures { λ r. ⌜ r ≡ filter.whitenedOf aav1 ⌝ }
+{
+    let normrav1 = norm(work(aav1, 0));
+    let mut out = [0i16; 9];
+    for i in 0..9 {
+        out[i] = l_shr(l_shl(work(aav1, i), normrav1), 16) as i16;
+    }
+    Filter {
+        rav1: out,
+        normrav1: normrav1,
+    }
+}
+
+// 6.3.
+pub fn predicted(av1: [i32; 9]) -> Filter
+    ensures { λ r. ⌜ r ≡ filter.predictedOf av1 ⌝ }
+{
+    whitened(aav1(vpar(av1)))
+}

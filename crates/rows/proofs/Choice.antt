@@ -1,0 +1,52 @@
+-- A choice by its test, and the test of equality. Assumes nothing.
+use mathlib.Core.Path.{_≡_, refl, sym, subst}
+use mathlib.Core.Bool.{Bool, true, false, _&&_}
+use native.Mathlib.Omega.{arith}
+use lib.Dec.{T}
+use lib.IntN.{ℤ}
+use lib.Signed.{leZ}
+use Rattle.rows.specs.Choice.{IF_THEN_ELSE_, eqZ}
+use Rattle.numbers.proofs.Parts.{zarith, same, le-true, le-yes}
+
+-- ---- both of two tests
+pub and-left : (a b : Bool) → a && b ≡ true → a ≡ true
+and-left true b e = refl
+and-left false b e = e
+
+pub and-right : (a b : Bool) → a && b ≡ true → b ≡ true
+and-right true b e = e
+and-right false b e = absurd (subst T (sym e) tt)
+
+pub both : {a b : Bool} → a ≡ true → b ≡ true → a && b ≡ true
+both p q = rw p q
+
+-- ---- a choice
+pub by-yes {ℓ} : {A : Type ℓ} {t : Bool} (x y : A) → t ≡ true → (IF t THEN x ELSE y) ≡ x
+unfolding IF_THEN_ELSE_
+by-yes x y e = rw e
+
+pub by-no {ℓ} : {A : Type ℓ} {t : Bool} (x y : A) → t ≡ false → (IF t THEN x ELSE y) ≡ y
+unfolding IF_THEN_ELSE_
+by-no x y e = rw e
+
+-- what holds of both arms, each under its test, holds of the choice
+pub by-test {ℓ} : {A : Type ℓ} (P : A → Type 0) (t : Bool) (x y : A) → (t ≡ true → P x) → (t ≡ false → P y) → P (IF t THEN x ELSE y)
+unfolding IF_THEN_ELSE_
+by-test P true x y f g = f refl
+by-test P false x y f g = g refl
+
+pub either {ℓ} : (X : Type ℓ) (t : Bool) → (t ≡ true → X) → (t ≡ false → X) → X
+either X true f g = f refl
+either X false f g = g refl
+
+-- ---- the test of equality
+pub eqZ-yes : {x y : ℤ} → x ≡ y → eqZ x y ≡ true
+unfolding eqZ
+eqZ-yes {x} {y} e = let h = same e in rw (le-true x y (omega arith), le-true y x (omega arith))
+
+pub eqZ-is : (x y : ℤ) → eqZ x y ≡ true → x ≡ y
+unfolding eqZ
+eqZ-is x y h = omega (zarith, le-yes x y (and-left (leZ x y) (leZ y x) h), le-yes y x (and-right (leZ x y) (leZ y x) h))
+
+pub eqZ-no : {x y : ℤ} → (x ≡ y → ⊥) → eqZ x y ≡ false
+eqZ-no {x} {y} h = either (eqZ x y ≡ false) (eqZ x y) (λ t. absurd (h (eqZ-is x y t))) (λ t. t)

@@ -1,0 +1,5 @@
+pub mod Choice
+pub mod Fill
+pub mod All
+pub mod Sum
+pub mod Tail

@@ -1,0 +1,13 @@
+-- The standard's IF .. THEN .. ELSE, and its test of equality. `ltZ` and `leZ` of the library are its < and <=. Assumes nothing.
+use mathlib.Core.Bool.{Bool, true, false, _&&_}
+use lib.IntN.{ℤ}
+use lib.Signed.{leZ}
+
+infixr 1 IF_THEN_ELSE_
+unfoldable pub IF_THEN_ELSE_ {ℓ} : {A : Type ℓ} → Bool → A → A → A
+IF true THEN a ELSE b = a
+IF false THEN a ELSE b = b
+
+-- x == y
+unfoldable pub eqZ : ℤ → ℤ → Bool
+eqZ x y = leZ x y && leZ y x

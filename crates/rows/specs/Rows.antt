@@ -1,0 +1,27 @@
+-- Rows of numbers, made entry by entry and tested entry by entry, and the standard's running sum. Assumes nothing.
+use mathlib.Core.Bool.{Bool, true, false, _&&_}
+use mathlib.Core.List.{List, [], _∷_, _++_}
+use Prim.Native.Nat.{ℕ, zero, suc, min}
+use lib.IntN.{ℤ, pos}
+use lib.ListN.{length}
+use Rattle.numbers.specs.Sum.{at}
+use Rattle.operations.specs.Operations.{L-add, L-mult}
+
+-- f 0, f 1, .., f (n - 1)
+unfoldable pub row {ℓ} : {A : Type ℓ} → ℕ → (ℕ → A) → List A
+row zero f = []
+row (suc n) f = row n f ++ (f n ∷ [])
+
+-- the test holds of each entry
+unfoldable pub all {ℓ} : {A : Type ℓ} → (A → Bool) → List A → Bool
+all t [] = true
+all t (x ∷ l) = t x && all t l
+
+-- `L = 0; FOR k = 0 to n-1: L = L_add( L, t[k] )`
+unfoldable pub L-sum : ℕ → (ℕ → ℤ) → ℤ
+L-sum zero t = pos 0
+L-sum (suc n) t = L-add (L-sum n t) (t n)
+
+-- `L_add( .., L_mult( a[k], b[k] ) )` over the entries that both rows have
+unfoldable pub L-products : List ℤ → List ℤ → ℤ
+L-products a b = L-sum (min (length a) (length b)) (λ k. L-mult (at a k) (at b k))

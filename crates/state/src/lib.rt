@@ -1,0 +1,219 @@
+// What the detector keeps from frame to frame: the state, when it is valid, and the state after a reset.
+ghost use mathlib.Core.Path.{_≡_};
+ghost use Rattle.state.specs.Valid as valid;
+use operations::magnitude;
+use pairs::Pair;
+
+// What is kept from frame to frame. A valid state's ranges are those of specs/Valid.antt.
+pub struct State {
+    pub rvad: [i16; 9],
+    pub normrvad: i16,
+    pub sacf: [i32; 27],
+    pub ptsacf: usize,
+    pub sav0: [i32; 36],
+    pub ptsav0: usize,
+    pub lastdm: i32,
+    pub thvad: Pair,
+    pub adaptcount: i16,
+    pub burstcount: i16,
+    pub hangcount: i16,
+    pub oldlagcount: i16,
+    pub veryoldlagcount: i16,
+    pub oldlag: u16,
+}
+
+impl State {
+    // The state after a reset.
+    pub fn reset() -> State
+        ensures { λ r. ⌜ r ≡ valid.resetOf ⌝ }
+    {
+        State {
+            rvad: [24576, -16384, 4096, 0, 0, 0, 0, 0, 0],
+            normrvad: 7,
+            sacf: [0i32; 27],
+            ptsacf: 0,
+            sav0: [0i32; 36],
+            ptsav0: 0,
+            lastdm: 0,
+            thvad: Pair { e: 20, m: 31250 },
+            adaptcount: 0,
+            burstcount: 0,
+            hangcount: -1,
+            oldlagcount: 0,
+            veryoldlagcount: 0,
+            oldlag: 40,
+        }
+    }
+}
+
+// ---- validity
+
+// Whether z is one of lo..hi.
+pub fn within(lo: i32, hi: i32, z: i32) -> bool
+    ensures { λ r. ⌜ r ≡ valid.within lo hi z ⌝ }
+{
+    if lo <= z {
+        return z <= hi;
+    }
+    false
+}
+
+// The same of a 16-bit number.
+pub fn short_within(lo: i16, hi: i16, z: i16) -> bool
+    ensures { λ r. ⌜ r ≡ valid.within lo hi z ⌝ }
+{
+    if lo <= z {
+        return z <= hi;
+    }
+    false
+}
+
+// Whether a pointer names a frame of its history.
+fn pointer_ok(last: usize, pt: usize) -> bool
+    ensures { λ r. ⌜ r ≡ valid.pointerOk last pt ⌝ }
+{
+    if pt <= last {
+        return pt % 9 == 0;
+    }
+    false
+}
+
+// Whether each entry of the three frames is in its range.
+fn sacf_within(sacf: [i32; 27]) -> bool
+    ensures { λ r. ⌜ r ≡ valid.sacfWithin sacf ⌝ }
+{
+    for i in 0..27 {
+        if within(-536870912, 536870911, sacf[i]) {} else {
+            return false;
+        }
+    }
+    true
+}
+
+// Whether the three frames are valid.
+fn sacf_ok(sacf: [i32; 27]) -> bool
+    ensures { λ r. ⌜ r ≡ valid.sacfOk sacf ⌝ }
+{
+    if sacf[0] < 0 {
+        return false;
+    }
+    if sacf[9] < 0 {
+        return false;
+    }
+    if sacf[18] < 0 {
+        return false;
+    }
+    sacf_within(sacf)
+}
+
+// Whether the four averages are valid.
+fn sav0_ok(sav0: [i32; 36]) -> bool
+    ensures { λ r. ⌜ r ≡ valid.sav0Ok sav0 ⌝ }
+{
+    if sav0[0] < 0 {
+        return false;
+    }
+    if sav0[9] < 0 {
+        return false;
+    }
+    if sav0[18] < 0 {
+        return false;
+    }
+    sav0[27] >= 0
+}
+
+// The sum of the magnitudes of the later filter coefficients.
+fn weight(rvad: [i16; 9]) -> u32
+    ensures { λ r. ⌜ r ≡ valid.weightOf rvad ⌝ }
+{
+    let mut sum: u32 = 0;
+    for k in 0..8 {
+        sum += magnitude(rvad[k + 1] as i32);
+    }
+    sum
+}
+
+// Whether the filter is valid.
+fn rvad_ok(rvad: [i16; 9]) -> bool
+    ensures { λ r. ⌜ r ≡ valid.rvadOk rvad ⌝ }
+{
+    let first = rvad[0];
+    if short_within(16384, 32767, first) {
+        return weight(rvad) <= 4 * magnitude(first as i32) + 11;
+    }
+    false
+}
+
+// Whether the threshold is valid.
+fn thvad_ok(thvad: Pair) -> bool
+    ensures { λ r. ⌜ r ≡ valid.thvadOk thvad ⌝ }
+{
+    if short_within(16384, 32767, thvad.m) {
+        return short_within(-32, 64, thvad.e);
+    }
+    false
+}
+
+// Whether a lag is one of 40..120.
+pub fn lag_ok(lag: u16) -> bool
+    ensures { λ r. ⌜ r ≡ valid.lagOk lag ⌝ }
+{
+    if 40 <= lag {
+        return lag <= 120;
+    }
+    false
+}
+
+// Whether the counts and the last lag are valid.
+fn counts_ok(s: State) -> bool
+    ensures { λ r. ⌜ r ≡ valid.countsOk s ⌝ }
+{
+    if short_within(0, 9, s.adaptcount) {} else {
+        return false;
+    }
+    if short_within(0, 3, s.burstcount) {} else {
+        return false;
+    }
+    if short_within(-1, 5, s.hangcount) {} else {
+        return false;
+    }
+    if short_within(0, 4, s.oldlagcount) {} else {
+        return false;
+    }
+    if short_within(0, 4, s.veryoldlagcount) {} else {
+        return false;
+    }
+    lag_ok(s.oldlag)
+}
+
+// Whether a state is valid.
+pub fn state_ok(s: State) -> bool
+    ensures { λ r. ⌜ r ≡ valid.validOf s ⌝ }
+{
+    if pointer_ok(18, s.ptsacf) {} else {
+        return false;
+    }
+    if pointer_ok(27, s.ptsav0) {} else {
+        return false;
+    }
+    let sacf = s.sacf;
+    if sacf_ok(sacf) {} else {
+        return false;
+    }
+    let sav0 = s.sav0;
+    if sav0_ok(sav0) {} else {
+        return false;
+    }
+    let rvad = s.rvad;
+    if rvad_ok(rvad) {} else {
+        return false;
+    }
+    if short_within(2, 9, s.normrvad) {} else {
+        return false;
+    }
+    let thvad = s.thvad;
+    if thvad_ok(thvad) {} else {
+        return false;
+    }
+    counts_ok(s)
+}
