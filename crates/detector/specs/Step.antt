@@ -1,0 +1,85 @@
+-- One frame: clauses 6.1 to 6.9 in their order, and the answer for every input. Assumes nothing.
+use mathlib.Core.Bool.{Bool, false}
+use mathlib.Core.List.{List}
+use Prim.Native.Nat.{ℕ}
+use lib.Dec.{eqb}
+use lib.IntN.{ℤ, pos}
+use lib.ListN.{getD}
+use Rattle.numbers.specs.Sum.{at}
+use Rattle.rows.specs.Choice.{IF_THEN_ELSE_, eqZ}
+use Rattle.pairs.specs.declared.Pair.{Pair}
+use Rattle.pairs.specs.Pairs.{pair, greaterOf}
+use Rattle.energy.specs.Energy.{energyOf}
+use Rattle.averages.specs.Averages.{averageOf}
+use Rattle.predictor.specs.Filter.{predictedOf}
+use Rattle.spectrum.specs.Spectrum.{compareOf}
+use Rattle.lags.specs.Lags.{ptchOf, lagcountOf}
+use Rattle.threshold.specs.Threshold.{adaptOf}
+use Rattle.threshold.specs.declared.Kept.{Kept}
+use Rattle.hangover.specs.Hangover.{hangoverOf}
+use Rattle.state.specs.declared.State.{State}
+use Rattle.detector.specs.declared.Middle.{Middle}
+use Rattle.detector.specs.declared.Answer.{Answer}
+use Rattle.detector.specs.Refusal.{refusalOf}
+
+-- 6.2, 6.3 and 6.4
+unfoldable pub spectralOf : List ℤ → ℤ → State → Middle
+spectralOf L-ACF scalvad s =
+    let a = averageOf L-ACF scalvad (s .sacf) (s .ptsacf) (s .sav0) (s .ptsav0) in
+    let f = predictedOf (a .av1) in
+    let d = compareOf (a .av0) (f .rav1) (f .normrav1) (s .lastdm) in
+    record { sacf = a .sacf; ptsacf = a .ptsacf; sav0 = a .sav0; ptsav0 = a .ptsav0; lastdm = d .dm; stat = d .stat; rav1 = f .rav1; normrav1 = f .normrav1 }
+
+-- where they are not run: the histories and lastdm stay, and stat is false. (The filter is then not looked at: 6.6 stops at the level)
+unfoldable pub unmovedOf : State → Middle
+unmovedOf s =
+    record { sacf = s .sacf; ptsacf = s .ptsacf; sav0 = s .sav0; ptsav0 = s .ptsav0; lastdm = s .lastdm; stat = false; rav1 = s .rvad; normrav1 = s .normrvad }
+
+-- document 01's reading of the all-zero frame: 6.2 to 6.4 are not run
+unfoldable pub movedOf : List ℤ → ℤ → State → Middle
+movedOf L-ACF scalvad s = IF eqZ (at L-ACF 0) (pos 0) THEN unmovedOf s ELSE spectralOf L-ACF scalvad s
+
+-- a frame that is accepted
+unfoldable pub acceptedOf : List ℤ → List ℕ → ℤ → State → Answer
+acceptedOf L-ACF lags scalvad s =
+    let e = energyOf L-ACF scalvad (s .rvad) (s .normrvad) in  -- 6.1
+    let m = movedOf L-ACF scalvad s in  -- 6.2 to 6.4
+    let ptch = ptchOf (s .oldlagcount) (s .veryoldlagcount) in  -- 6.5, from the frames before
+    let kept : Kept = record { thvad = s .thvad; adaptcount = s .adaptcount; rvad = s .rvad; normrvad = s .normrvad } in
+    let k = adaptOf (e .acf0) (e .pvad) ptch (m .stat) (m .rav1) (m .normrav1) kept in  -- 6.6
+    let vvad = greaterOf (e .pvad) (k .thvad) in  -- 6.7
+    let h = hangoverOf vvad (s .burstcount) (s .hangcount) in  -- 6.8
+    record {
+      refusal = 0;
+      vad = h .vad;
+      vvad = vvad;
+      acf0 = e .acf0;
+      pvad = e .pvad;
+      next =
+          record {
+            rvad = k .rvad;
+            normrvad = k .normrvad;
+            sacf = m .sacf;
+            ptsacf = m .ptsacf;
+            sav0 = m .sav0;
+            ptsav0 = m .ptsav0;
+            lastdm = m .lastdm;
+            thvad = k .thvad;
+            adaptcount = k .adaptcount;
+            burstcount = h .burstcount;
+            hangcount = h .hangcount;
+            oldlagcount = pos (lagcountOf (s .oldlag) lags);  -- 6.9
+            veryoldlagcount = s .oldlagcount;
+            oldlag = getD lags 3 0;
+          };
+    }
+
+-- a frame that is not: flags 0, energies 0 in both parts, the state as given
+unfoldable pub refusedOf : ℕ → State → Answer
+refusedOf number s = record { refusal = number; vad = false; vvad = false; acf0 = pair (pos 0) (pos 0); pvad = pair (pos 0) (pos 0); next = s }
+
+-- the answer for every input
+unfoldable pub stepOf : List ℤ → List ℕ → ℤ → State → Answer
+stepOf L-ACF lags scalvad s =
+    let number = refusalOf L-ACF lags scalvad s in
+    IF eqb number 0 THEN acceptedOf L-ACF lags scalvad s ELSE refusedOf number s

@@ -1,0 +1,266 @@
+// The voice activity detector of GSM 06.32 on the uplink: one frame, the state before it, and the answer with the state after it.
+ghost use mathlib.Core.Path.{_≡_};
+ghost use lib.ListN.{length};
+ghost use Rattle.detector.specs.Refusal as table;
+ghost use Rattle.detector.specs.Step as clause;
+use averages::average;
+use energy::energy;
+use hangover::hangover;
+use lags::lagcount;
+use lags::ptch;
+use operations::magnitude;
+use pairs::Pair;
+use pairs::greater;
+use predictor::predicted;
+use spectrum::compare;
+use state::State;
+use state::lag_ok;
+use state::state_ok;
+use state::within;
+use threshold::Kept;
+use threshold::adapt;
+
+// The answer to a frame.
+pub struct Answer {
+    pub refusal: u8,
+    pub vad: bool,
+    pub vvad: bool,
+    pub acf0: Pair,
+    pub pvad: Pair,
+    pub next: State,
+}
+
+// What 6.2 to 6.4 leave behind.
+struct Middle {
+    sacf: [i32; 27],
+    ptsacf: usize,
+    sav0: [i32; 36],
+    ptsav0: usize,
+    lastdm: i32,
+    stat: bool,
+    rav1: [i16; 9],
+    normrav1: i16,
+}
+
+// ---- refusals
+
+// Whether no number is larger in magnitude than the first, which is not negative.
+fn acf_ok(acf: &[i32]) -> bool
+    requires { ⌜ length (now acf) ≡ 9 ⌝ }
+    ensures { λ r. ⌜ r ≡ table.acfOk (now (acf .entry)) ⌝ }
+{
+    let first = acf[0];
+    if first < 0 {
+        return false;
+    }
+    let top = first as u32;
+    for i in 0..9 {
+        if magnitude(acf[i]) > top {
+            return false;
+        }
+    }
+    true
+}
+
+// Whether each lag is one of 40..120.
+fn lags_ok(lags: &[u16]) -> bool
+    requires { ⌜ length (now lags) ≡ 4 ⌝ }
+    ensures { λ r. ⌜ r ≡ table.lagsOk (now (lags .entry)) ⌝ }
+{
+    for i in 0..4 {
+        if lag_ok(lags[i]) {} else {
+            return false;
+        }
+    }
+    true
+}
+
+// The refusal number of a frame, 0 for one that is accepted.
+fn refusal(acf: &[i32], lags: &[u16], scalvad: i16, s: State) -> u8
+    ensures { λ r. ⌜ r ≡ table.refusalOf (now (acf .entry)) (now (lags .entry)) scalvad s ⌝ }
+{
+    if acf.len() != 9 {
+        return 1;
+    }
+    if lags.len() != 4 {
+        return 1;
+    }
+    if state_ok(s) {} else {
+        return 5;
+    }
+    if within(0, 4, scalvad as i32) {} else {
+        return 2;
+    }
+    if acf_ok(acf) {} else {
+        return 3;
+    }
+    if lags_ok(lags) {} else {
+        return 4;
+    }
+    0
+}
+
+// ---- the clauses
+
+// 6.2 to 6.4.
+fn spectral(acf: [i32; 9], scalvad: i16, s: State) -> Middle
+    ensures { λ r. ⌜ r ≡ clause.spectralOf acf scalvad s ⌝ }
+{
+    let sacf = s.sacf;
+    let sav0 = s.sav0;
+    let a = average(acf, scalvad, sacf, s.ptsacf, sav0, s.ptsav0);
+    let av1 = a.av1;
+    let av0 = a.av0;
+    let f = predicted(av1);
+    let rav1 = f.rav1;
+    let normrav1 = f.normrav1;
+    let d = compare(av0, rav1, normrav1, s.lastdm);
+    let frames = a.sacf;
+    let sums = a.sav0;
+    Middle {
+        sacf: frames,
+        ptsacf: a.ptsacf,
+        sav0: sums,
+        ptsav0: a.ptsav0,
+        lastdm: d.dm,
+        stat: d.stat,
+        rav1: rav1,
+        normrav1: normrav1,
+    }
+}
+
+// What stays where they are not run.
+fn unmoved(s: State) -> Middle
+    ensures { λ r. ⌜ r ≡ clause.unmovedOf s ⌝ }
+{
+    let sacf = s.sacf;
+    let sav0 = s.sav0;
+    let rvad = s.rvad;
+    Middle {
+        sacf: sacf,
+        ptsacf: s.ptsacf,
+        sav0: sav0,
+        ptsav0: s.ptsav0,
+        lastdm: s.lastdm,
+        stat: false,
+        rav1: rvad,
+        normrav1: s.normrvad,
+    }
+}
+
+// 6.2 to 6.4, but for an all-zero frame.
+fn moved(acf: [i32; 9], scalvad: i16, s: State) -> Middle
+    ensures { λ r. ⌜ r ≡ clause.movedOf acf scalvad s ⌝ }
+{
+    if acf[0] == 0 {
+        return unmoved(s);
+    }
+    spectral(acf, scalvad, s)
+}
+
+// The nine numbers, by value.
+fn nine(acf: &[i32]) -> [i32; 9]
+    requires { ⌜ length (now acf) ≡ 9 ⌝ }
+    ensures { λ r. ⌜ r ≡ now (acf .entry) ⌝ }
+{
+    let mut out = [0i32; 9];
+    for i in 0..9 {
+        out[i] = acf[i];
+    }
+    out
+}
+
+// The four lags, by value.
+fn four(lags: &[u16]) -> [u16; 4]
+    requires { ⌜ length (now lags) ≡ 4 ⌝ }
+    ensures { λ r. ⌜ r ≡ now (lags .entry) ⌝ }
+{
+    let mut out = [0u16; 4];
+    for i in 0..4 {
+        out[i] = lags[i];
+    }
+    out
+}
+
+// A frame that is accepted.
+fn accepted(acf: [i32; 9], lags: [u16; 4], scalvad: i16, s: State) -> Answer
+    ensures { λ r. ⌜ r ≡ clause.acceptedOf acf lags scalvad s ⌝ }
+{
+    let rvad = s.rvad;
+    let thvad = s.thvad;
+    let e = energy(acf, scalvad, rvad, s.normrvad);
+    let acf0 = e.acf0;
+    let pvad = e.pvad;
+    let m = moved(acf, scalvad, s);
+    let rav1 = m.rav1;
+    let kept = Kept {
+        thvad: thvad,
+        adaptcount: s.adaptcount,
+        rvad: rvad,
+        normrvad: s.normrvad,
+    };
+    let k = adapt(
+        acf0,
+        pvad,
+        ptch(s.oldlagcount, s.veryoldlagcount),
+        m.stat,
+        rav1,
+        m.normrav1,
+        kept,
+    );
+    let threshold = k.thvad;
+    let vvad = greater(pvad, threshold);
+    let h = hangover(vvad, s.burstcount, s.hangcount);
+    let filter = k.rvad;
+    let frames = m.sacf;
+    let sums = m.sav0;
+    let next = State {
+        rvad: filter,
+        normrvad: k.normrvad,
+        sacf: frames,
+        ptsacf: m.ptsacf,
+        sav0: sums,
+        ptsav0: m.ptsav0,
+        lastdm: m.lastdm,
+        thvad: threshold,
+        adaptcount: k.adaptcount,
+        burstcount: h.burstcount,
+        hangcount: h.hangcount,
+        oldlagcount: lagcount(s.oldlag, lags),
+        veryoldlagcount: s.oldlagcount,
+        oldlag: lags[3],
+    };
+    Answer {
+        refusal: 0,
+        vad: h.vad,
+        vvad: vvad,
+        acf0: acf0,
+        pvad: pvad,
+        next: next,
+    }
+}
+
+// A frame that is refused.
+fn refused(number: u8, s: State) -> Answer
+    ensures { λ r. ⌜ r ≡ clause.refusedOf number s ⌝ }
+{
+    Answer {
+        refusal: number,
+        vad: false,
+        vvad: false,
+        acf0: Pair { e: 0, m: 0 },
+        pvad: Pair { e: 0, m: 0 },
+        next: s,
+    }
+}
+
+// One frame: nine autocorrelations and four lags, lent; the scale; the state before.
+pub fn step(acf: &[i32], lags: &[u16], scalvad: i16, s: State) -> Answer
+    ensures { λ r. ⌜ r ≡ clause.stepOf (now (acf .entry)) (now (lags .entry)) scalvad s ⌝ }
+{
+    let number = refusal(acf, lags, scalvad, s);
+    if number == 0 {
+        return accepted(nine(acf), four(lags), scalvad, s);
+    }
+    refused(number, s)
+}
