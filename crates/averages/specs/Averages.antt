@@ -1,5 +1,6 @@
 -- Clause 6.2, ACF averaging, line by line. `L-sacf` is the history of three frames, `L-sav0` that of four averages; a pointer names the
--- nine entries that are the oldest. Assumes nothing.
+-- nine entries that are the oldest. The clause stores in the loop that sums; at a multiple of nine, as a valid state's pointers are, a store
+-- touches only the column that was just read, so here the sums are of the history as it was. Assumes nothing.
 use mathlib.Core.List.{List, _++_}
 use Prim.Native.Nat.{ℕ, _+_}
 use lib.Dec.{leb, eqb}

@@ -7,7 +7,7 @@ use lib.Signed.{leZ}
 use Rattle.numbers.specs.Sum.{at}
 use Rattle.operations.specs.Operations.{add, sub, L-add, L-mult, norm, _<<_, _>>_, _<<ₛ_}
 use Rattle.rows.specs.Choice.{IF_THEN_ELSE_, eqZ}
-use Rattle.rows.specs.Rows.{row, L-sum}
+use Rattle.rows.specs.Rows.{L-sum}
 use Rattle.pairs.specs.declared.Pair.{Pair}
 use Rattle.pairs.specs.Pairs.{pair, silent}
 use Rattle.energy.specs.declared.Energies.{Energies}

@@ -1,0 +1,265 @@
+-- A step from a valid state gives a valid state, whatever the frame is: a refused one hands the state back, and an accepted one runs clauses that
+-- each keep their part. `Numbers` is what the type of the lent numbers says by itself, as `Shaped` is what the type State says. Assumes nothing.
+use mathlib.Core.Path.{_≡_, refl, sym, ap, _∙_, subst}
+use mathlib.Core.Bool.{Bool, true, false}
+use mathlib.Core.List.{List}
+use mathlib.Core.Logic.{_⊎_, inl, inr}
+use Prim.Native.Nat.{ℕ, zero, suc, _+_, _*_, _%_, _^_, _<_, _≤_}
+use native.Mathlib.Omega.{arith}
+use lib.Dec.{T, ltb, eqb}
+use borrow.Author.Tests.{ltb-true, ltb-false, eqb-true, eqb-false}
+use lib.IntN.{ℤ, natAbs, pos, negsuc}
+use lib.ListN.{length, getD, List·getD-eq-default}
+use lib.Signed.{leZ, _≤ℤ_}
+use mir.Syntax.{w32}
+use mir.Val.{SFits}
+use Rattle.numbers.specs.Sum.{at, total}
+use Rattle.numbers.proofs.Parts.{zarith, of, sign, le-yes}
+use Rattle.rows.specs.Rows.{all}
+use Rattle.rows.proofs.Choice.{and-left, and-right, either, by-test, eqZ-is, eqZ-yes}
+use Rattle.rows.proofs.All.{all-at}
+use Rattle.rows.specs.Choice.{eqZ}
+use Rattle.pairs.specs.declared.Pair.{Pair}
+use Rattle.pairs.specs.Pairs.{greaterOf}
+use Rattle.pairs.proofs.Range.{Mantissa, Ranged}
+use Rattle.energy.specs.Energy.{energyOf}
+use Rattle.energy.specs.declared.Energies.{Energies}
+use Rattle.energy.proofs.Range.{Frame, Filter, energy-loud}
+use Rattle.averages.specs.Averages.{averageOf}
+use Rattle.averages.proofs.Pointers.{Pointer}
+use Rattle.averages.proofs.Kept.{Kept27, Kept36, kept27, kept36, Incoming, average-keeps}
+use Rattle.predictor.specs.Filter.{predictedOf}
+use Rattle.predictor.proofs.Bounds.{Whitening, predicted-whitening}
+use Rattle.lags.specs.Lags.{ptchOf, lagcountOf}
+use Rattle.lags.proofs.Range.{lagcount-le}
+use Rattle.threshold.specs.declared.Kept.{Kept}
+use Rattle.threshold.specs.Threshold.{PTH, adaptOf}
+use Rattle.threshold.proofs.Range.{Sound, adapt-keeps, adapt-filter}
+use Rattle.hangover.specs.Hangover.{hangoverOf}
+use Rattle.hangover.proofs.Kept.{Counts, hangover-keeps}
+use Rattle.state.specs.declared.State.{State}
+use Rattle.state.specs.Valid.{validOf, weightOf, lagOk, within, Between, Valid, Shaped}
+use Rattle.state.proofs.Facts.{valid, valid-back, between, le-fact, lag}
+use Rattle.detector.specs.declared.Middle.{Middle}
+use Rattle.detector.specs.declared.Answer.{Answer}
+use Rattle.detector.specs.Refusal.{lengthsOk, scaleOk, acfOk, lagsOk, refusalOf}
+use Rattle.detector.specs.Step.{spectralOf, unmovedOf, movedOf, acceptedOf, stepOf}
+use Rattle.detector.proofs.Table.{number-0, step-accepted, step-refused, refused-answer, nine, four}
+
+-- the lent numbers are of 32 bits
+abbrev pub Numbers : List ℤ → Type 0
+Numbers L-ACF = (k : ℕ) → SFits w32 (at L-ACF k)
+
+-- ---- what an accepted frame is
+pub record Accepted (L-ACF : List ℤ) (lags : List ℕ) (scalvad : ℤ) (s : State) : Type 0 where
+  pub nine : length L-ACF ≡ 9
+  pub four : length lags ≡ 4
+  pub state : Valid s
+  pub scale : Between (pos 0) (pos 4) scalvad
+  pub first : pos 0 ≤ℤ at L-ACF 0
+  pub largest : (k : ℕ) → natAbs (at L-ACF k) ≤ natAbs (at L-ACF 0)
+  pub each-lag : (k : ℕ) → k < 4 → (40 ≤ getD lags k 0) × (getD lags k 0 ≤ 120)
+
+module _ (L-ACF : List ℤ) where
+  acf-first : acfOk L-ACF ≡ true → pos 0 ≤ℤ at L-ACF 0
+  unfolding acfOk
+  acf-first t = le-fact (pos 0) (at L-ACF 0) (and-left (leZ (pos 0) (at L-ACF 0)) (all (λ x. leZ (pos (natAbs x)) (at L-ACF 0)) L-ACF) t)
+
+  acf-largest : acfOk L-ACF ≡ true → (k : ℕ) → natAbs (at L-ACF k) ≤ natAbs (at L-ACF 0)
+  unfolding acfOk
+  acf-largest t k =
+      let a = at L-ACF 0 in
+      let each : all (λ x. leZ (pos (natAbs x)) a) L-ACF ≡ true = and-right (leZ (pos 0) a) (all (λ x. leZ (pos (natAbs x)) a) L-ACF) t in
+      either (natAbs (at L-ACF k) ≤ natAbs a) (ltb k (length L-ACF))
+      (λ h. omega (arith, le-yes (pos (natAbs (at L-ACF k))) a (all-at (λ x. leZ (pos (natAbs x)) a) L-ACF k (pos 0) each (ltb-true k (length L-ACF) h)), of a))
+      (λ h. omega (arith, ap natAbs (List·getD-eq-default L-ACF (pos 0) (ltb-false k (length L-ACF) h))))
+
+lags-in : (lags : List ℕ) → length lags ≡ 4 → lagsOk lags ≡ true → (k : ℕ) → k < 4 → (40 ≤ getD lags k 0) × (getD lags k 0 ≤ 120)
+unfolding lagsOk
+lags-in lags n t k h = lag (getD lags k 0) (all-at lagOk lags k 0 t (omega arith))
+
+scale-in : (scalvad : ℤ) → scaleOk scalvad ≡ true → Between (pos 0) (pos 4) scalvad
+unfolding scaleOk
+scale-in scalvad t = between (pos 0) (pos 4) scalvad t
+
+pub accepted : (L-ACF : List ℤ) (lags : List ℕ) (scalvad : ℤ) (s : State) → refusalOf L-ACF lags scalvad s ≡ 0 → Accepted L-ACF lags scalvad s
+accepted L-ACF lags scalvad s e =
+    let h = number-0 L-ACF lags scalvad s .0 e in
+    record {
+      nine = nine L-ACF lags (h .0);
+      four = four L-ACF lags (h .0);
+      state = valid s (h .1);
+      scale = scale-in scalvad (h .2);
+      first = acf-first L-ACF (h .3);
+      largest = acf-largest L-ACF (h .3);
+      each-lag = lags-in lags (four L-ACF lags (h .0)) (h .4);
+    }
+
+-- ---- the filter, and what 6.2 to 6.4 leave behind
+pub record Filtering (rvad : List ℤ) (normrvad : ℤ) : Type 0 where
+  pub size : length rvad ≡ 9
+  pub first : Between (pos 16384) (pos 32767) (at rvad 0)
+  pub weight : weightOf rvad ≤ 4 * natAbs (at rvad 0) + 11
+  pub norm : Between (pos 2) (pos 9) normrvad
+
+pub record Moving (m : Middle) : Type 0 where
+  pub frames : Kept27 (m .sacf)
+  pub frames-at : Pointer 18 (m .ptsacf)
+  pub sums : Kept36 (m .sav0)
+  pub sums-at : Pointer 27 (m .ptsav0)
+  pub filter : Filtering (m .rav1) (m .normrav1)
+
+-- of a state that is valid
+module _ (s : State) (shape : Shaped s) (v : Valid s) where
+  pub filter-was : Filtering (s .rvad) (s .normrvad)
+  filter-was = record { size = shape .rvad; first = v .rvad-first; weight = v .rvad-weight; norm = v .normrvad }
+
+  pub frames-was : Kept27 (s .sacf)
+  frames-was = kept27 (s .sacf) (shape .sacf) (λ k. (v .sacf-each k .from, v .sacf-each k .to)) (v .sacf-first .0) (v .sacf-first .1) (v .sacf-first .2)
+
+  pub sums-was : Kept36 (s .sav0)
+  sums-was = kept36 (s .sav0) (shape .sav0) (v .sav0-first .0) (v .sav0-first .1) (v .sav0-first .2) (v .sav0-first .3)
+
+  pub frames-at-was : Pointer 18 (s .ptsacf)
+  frames-at-was = record { within = v .ptsacf-last; nines = v .ptsacf-nines }
+
+  pub sums-at-was : Pointer 27 (s .ptsav0)
+  sums-at-was = record { within = v .ptsav0-last; nines = v .ptsav0-nines }
+
+  unmoved-keeps : Moving (unmovedOf s)
+  unfolding unmovedOf
+  unmoved-keeps = record { frames = frames-was; frames-at = frames-at-was; sums = sums-was; sums-at = sums-at-was; filter = filter-was }
+
+  module _ (L-ACF : List ℤ) (scalvad : ℤ) (i : Incoming L-ACF scalvad) where
+    spectral-keeps : Moving (spectralOf L-ACF scalvad s)
+    unfolding spectralOf weightOf
+    spectral-keeps =
+        let a = average-keeps L-ACF scalvad (s .sacf) (s .ptsacf) (s .sav0) (s .ptsav0) i frames-was frames-at-was sums-was sums-at-was in
+        let f = predicted-whitening (averageOf L-ACF scalvad (s .sacf) (s .ptsacf) (s .sav0) (s .ptsav0) .av1) in
+        record {
+          frames = a .sacf-kept;
+          frames-at = a .ptsacf-kept;
+          sums = a .sav0-kept;
+          sums-at = a .ptsav0-kept;
+          filter =
+              record {
+                size = f .nine;
+                first = record { from = f .lo; to = f .hi };
+                weight = f .rest;
+                norm = record { from = f .norm-lo; to = f .norm-hi };
+              };
+        }
+
+    pub moved-keeps : Moving (movedOf L-ACF scalvad s)
+    unfolding movedOf
+    moved-keeps = by-test Moving (eqZ (at L-ACF 0) (pos 0)) (unmovedOf s) (spectralOf L-ACF scalvad s) (λ t. unmoved-keeps) (λ t. spectral-keeps)
+
+-- a number that is not negative and not 0
+above-zero : (z : ℤ) → pos 0 ≤ℤ z → eqZ z (pos 0) ≡ false → pos 1 ≤ℤ z
+above-zero (pos zero) h t = absurd (subst T (sym (eqZ-yes {x = pos 0} {y = pos 0} refl) ∙ t) tt)
+above-zero (pos (suc n)) h t = omega zarith
+above-zero (negsuc n) h t = absurd (omega zarith)
+
+-- ---- the step
+module _ (L-ACF : List ℤ) (lags : List ℕ) (scalvad : ℤ) (s : State) (fits : Numbers L-ACF) (shape : Shaped s) where
+  module _ (ok : Accepted L-ACF lags scalvad s) where
+    abbrev pub v : Valid s
+    v = ok .state
+
+    -- all zero, or a frame with energy
+    pub kind : (at L-ACF 0 ≡ pos 0) ⊎ Frame L-ACF
+    kind =
+        let z = at L-ACF 0 in
+        either ((z ≡ pos 0) ⊎ Frame L-ACF) (eqZ z (pos 0)) (λ t. inl (eqZ-is z (pos 0) t))
+        (λ t. inr (record { some = above-zero z (ok .first) t; largest = ok .largest; fits = omega (zarith, of z, sign z, fits 0 .sfits, ok .first) }))
+
+    pub filter-ok : Filter (s .rvad)
+    unfolding weightOf
+    filter-ok = record { low = v .rvad-first .from; high = v .rvad-first .to; rest = v .rvad-weight }
+
+    pub incoming : Incoming L-ACF scalvad
+    incoming = record { fits = fits; first = ok .first; least = ok .scale .from; most = ok .scale .to }
+
+    abbrev pub e : Energies
+    e = energyOf L-ACF scalvad (s .rvad) (s .normrvad)
+
+    abbrev pub m : Middle
+    m = movedOf L-ACF scalvad s
+
+    abbrev pub was : Kept
+    was = record { thvad = s .thvad; adaptcount = s .adaptcount; rvad = s .rvad; normrvad = s .normrvad }
+
+    abbrev pub k : Kept
+    k = adaptOf (e .acf0) (e .pvad) (ptchOf (s .oldlagcount) (s .veryoldlagcount)) (m .stat) (m .rav1) (m .normrav1) was
+
+    abbrev pub vvad : Bool
+    vvad = greaterOf (e .pvad) (k .thvad)
+
+    pub moving : Moving m
+    moving = moved-keeps s shape v L-ACF scalvad incoming
+
+    pub sound : Sound k
+    sound =
+        adapt-keeps (e .acf0) (e .pvad) (ptchOf (s .oldlagcount) (s .veryoldlagcount)) (m .stat) (m .rav1) (m .normrav1) was
+        (record {
+          thvad-in = record { e-low = v .exponent .from; e-high = v .exponent .to; mantissa = record { low = v .mantissa .from; high = v .mantissa .to } };
+          count-low = v .adaptcount .from;
+          count-high = v .adaptcount .to;
+        })
+        (energy-loud L-ACF scalvad (s .rvad) (s .normrvad) kind (ok .scale .from) (ok .scale .to) filter-ok (v .normrvad .from) (v .normrvad .to))
+
+    filtering : Filtering (k .rvad) (k .normrvad)
+    filtering =
+        adapt-filter (e .acf0) (e .pvad) (ptchOf (s .oldlagcount) (s .veryoldlagcount)) (m .stat) (m .rav1) (m .normrav1) was Filtering (filter-was s shape v) (moving .filter)
+
+    counts : Counts (hangoverOf vvad (s .burstcount) (s .hangcount) .burstcount) (hangoverOf vvad (s .burstcount) (s .hangcount) .hangcount)
+    counts =
+        hangover-keeps vvad (s .burstcount) (s .hangcount)
+        (record { burst-lo = v .burstcount .from; burst-hi = v .burstcount .to; hang-lo = v .hangcount .from; hang-hi = v .hangcount .to })
+
+    accepted-valid : Valid (acceptedOf L-ACF lags scalvad s .next)
+    unfolding acceptedOf
+    accepted-valid =
+        record {
+          ptsacf-last = moving .frames-at .within;
+          ptsacf-nines = moving .frames-at .nines;
+          ptsav0-last = moving .sums-at .within;
+          ptsav0-nines = moving .sums-at .nines;
+          sacf-first = (moving .frames .firsts 0 refl, moving .frames .firsts 9 refl, moving .frames .firsts 18 refl);
+          sacf-each = λ i. record { from = moving .frames .each i .0; to = moving .frames .each i .1 };
+          sav0-first = (moving .sums .firsts 0 refl, moving .sums .firsts 9 refl, moving .sums .firsts 18 refl, moving .sums .firsts 27 refl);
+          rvad-first = filtering .first;
+          rvad-weight = filtering .weight;
+          normrvad = filtering .norm;
+          mantissa = record { from = sound .thvad-in .mantissa .low; to = sound .thvad-in .mantissa .high };
+          exponent = record { from = sound .thvad-in .e-low; to = sound .thvad-in .e-high };
+          adaptcount = record { from = sound .count-low; to = sound .count-high };
+          burstcount = record { from = counts .burst-lo; to = counts .burst-hi };
+          hangcount = record { from = counts .hang-lo; to = counts .hang-hi };
+          oldlagcount = record { from = omega zarith; to = omega (zarith, lagcount-le (s .oldlag) lags, ok .four) };
+          veryoldlagcount = v .oldlagcount;
+          oldlag = ok .each-lag 3 (omega arith);
+        }
+
+    accepted-shape : Shaped (acceptedOf L-ACF lags scalvad s .next)
+    unfolding acceptedOf
+    accepted-shape = record { rvad = filtering .size; sacf = moving .frames .size; sav0 = moving .sums .size }
+
+  abbrev number : ℕ
+  number = refusalOf L-ACF lags scalvad s
+
+  abbrev Good : State → Type 0
+  Good t = (validOf t ≡ true) × Shaped t
+
+  -- the next state is valid, and has the shape of a state
+  pub step-keeps : validOf s ≡ true → Good (stepOf L-ACF lags scalvad s .next)
+  step-keeps t =
+      either (Good (stepOf L-ACF lags scalvad s .next)) (eqb number 0)
+      (λ h.
+      let n : number ≡ 0 = eqb-true number 0 h in
+      let ok = accepted L-ACF lags scalvad s n in
+      subst (λ (r : Answer). Good (r .next)) (sym (step-accepted L-ACF lags scalvad s n))
+      (valid-back (acceptedOf L-ACF lags scalvad s .next) (accepted-valid ok), accepted-shape ok))
+      (λ h.
+      let n : number ≡ 0 → ⊥ = eqb-false number 0 h in
+      subst Good (sym (refused-answer L-ACF lags scalvad s n .as-given)) (t, shape))
