@@ -16,7 +16,7 @@ use Rattle.pairs.specs.Pairs.{pair}
 use Rattle.state.specs.declared.State.{State}
 use Rattle.state.specs.Valid.{validOf}
 use Rattle.detector.specs.declared.Answer.{Answer}
-use Rattle.detector.specs.Refusal.{lengthsOk, scaleOk, acfOk, lagsOk, refusalOf}
+use Rattle.detector.specs.Refusal.{lengthsOk, scaleOk, acfOk, lagsOk, frameRefusalOf, refusalOf}
 use Rattle.detector.specs.Step.{acceptedOf, refusedOf, stepOf}
 
 -- ---- the table over its five tests
@@ -82,7 +82,7 @@ row-0 true true true true true = (λ h. (refl, refl, refl, refl, refl), λ h. re
 -- ---- of a frame
 module _ (L-ACF : List ℤ) (lags : List ℕ) (scalvad : ℤ) (s : State) where
   is : refusalOf L-ACF lags scalvad s ≡ number (lengthsOk L-ACF lags) (validOf s) (scaleOk scalvad) (acfOk L-ACF) (lagsOk lags)
-  unfolding refusalOf IF_THEN_ELSE_
+  unfolding refusalOf frameRefusalOf IF_THEN_ELSE_
   is = by (lengthsOk L-ACF lags) (validOf s) (scaleOk scalvad) (acfOk L-ACF) (lagsOk lags)
     where
       by : (a b c d e : Bool) → (IF a THEN IF b THEN IF c THEN IF d THEN IF e THEN 0 ELSE 4 ELSE 3 ELSE 2 ELSE 5 ELSE 1) ≡ number a b c d e

@@ -28,15 +28,20 @@ acfOk L-ACF = leZ (pos 0) (at L-ACF 0) && all (λ x. leZ (pos (natAbs x)) (at L-
 unfoldable pub lagsOk : List ℕ → Bool
 lagsOk lags = all lagOk lags
 
-unfoldable pub refusalOf : List ℤ → List ℕ → ℤ → State → ℕ
-refusalOf L-ACF lags scalvad s =
-    IF lengthsOk L-ACF lags THEN
-    IF validOf s THEN
+-- the frame by itself: 2, 3, 4
+unfoldable pub frameRefusalOf : List ℤ → List ℕ → ℤ → ℕ
+frameRefusalOf L-ACF lags scalvad =
     IF scaleOk scalvad THEN
     IF acfOk L-ACF THEN
     IF lagsOk lags THEN 0
     ELSE 4
     ELSE 3
     ELSE 2
+
+-- with the buffers before it, and then the state
+unfoldable pub refusalOf : List ℤ → List ℕ → ℤ → State → ℕ
+refusalOf L-ACF lags scalvad s =
+    IF lengthsOk L-ACF lags THEN
+    IF validOf s THEN frameRefusalOf L-ACF lags scalvad
     ELSE 5
     ELSE 1

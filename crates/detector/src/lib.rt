@@ -15,8 +15,8 @@ use predictor::predicted;
 use spectrum::compare;
 use state::State;
 use state::lag_ok;
+use state::short_within;
 use state::state_ok;
-use state::within;
 use threshold::Kept;
 use threshold::adapt;
 
@@ -44,10 +44,33 @@ struct Middle {
 
 // ---- refusals
 
-// Whether no number is larger in magnitude than the first, which is not negative.
-fn acf_ok(acf: &[i32]) -> bool
+// The nine numbers, by value.
+fn nine(acf: &[i32]) -> [i32; 9]
     requires { ⌜ length (now acf) ≡ 9 ⌝ }
-    ensures { λ r. ⌜ r ≡ table.acfOk (now (acf .entry)) ⌝ }
+    ensures { λ r. ⌜ r ≡ now (acf .entry) ⌝ }
+{
+    let mut out = [0i32; 9];
+    for i in 0..9 {
+        out[i] = acf[i];
+    }
+    out
+}
+
+// The four lags, by value.
+fn four(lags: &[u16]) -> [u16; 4]
+    requires { ⌜ length (now lags) ≡ 4 ⌝ }
+    ensures { λ r. ⌜ r ≡ now (lags .entry) ⌝ }
+{
+    let mut out = [0u16; 4];
+    for i in 0..4 {
+        out[i] = lags[i];
+    }
+    out
+}
+
+// Whether no number is larger in magnitude than the first, which is not negative.
+fn acf_ok(acf: [i32; 9]) -> bool
+    ensures { λ r. ⌜ r ≡ table.acfOk acf ⌝ }
 {
     let first = acf[0];
     if first < 0 {
@@ -63,9 +86,8 @@ fn acf_ok(acf: &[i32]) -> bool
 }
 
 // Whether each lag is one of 40..120.
-fn lags_ok(lags: &[u16]) -> bool
-    requires { ⌜ length (now lags) ≡ 4 ⌝ }
-    ensures { λ r. ⌜ r ≡ table.lagsOk (now (lags .entry)) ⌝ }
+fn lags_ok(lags: [u16; 4]) -> bool
+    ensures { λ r. ⌜ r ≡ table.lagsOk lags ⌝ }
 {
     for i in 0..4 {
         if lag_ok(lags[i]) {} else {
@@ -75,7 +97,23 @@ fn lags_ok(lags: &[u16]) -> bool
     true
 }
 
-// The refusal number of a frame, 0 for one that is accepted.
+// The refusal number of a frame by itself, 0 for one that can be accepted.
+pub fn frame_refusal(acf: [i32; 9], lags: [u16; 4], scalvad: i16) -> u8
+    ensures { λ r. ⌜ r ≡ table.frameRefusalOf acf lags scalvad ⌝ }
+{
+    if short_within(0, 4, scalvad) {} else {
+        return 2;
+    }
+    if acf_ok(acf) {} else {
+        return 3;
+    }
+    if lags_ok(lags) {
+        return 0;
+    }
+    4
+}
+
+// The refusal number of a frame and a state, 0 for a frame that is accepted.
 fn refusal(acf: &[i32], lags: &[u16], scalvad: i16, s: State) -> u8
     ensures { λ r. ⌜ r ≡ table.refusalOf (now (acf .entry)) (now (lags .entry)) scalvad s ⌝ }
 {
@@ -85,19 +123,10 @@ fn refusal(acf: &[i32], lags: &[u16], scalvad: i16, s: State) -> u8
     if lags.len() != 4 {
         return 1;
     }
-    if state_ok(s) {} else {
-        return 5;
+    if state_ok(s) {
+        return frame_refusal(nine(acf), four(lags), scalvad);
     }
-    if within(0, 4, scalvad as i32) {} else {
-        return 2;
-    }
-    if acf_ok(acf) {} else {
-        return 3;
-    }
-    if lags_ok(lags) {} else {
-        return 4;
-    }
-    0
+    5
 }
 
 // ---- the clauses
@@ -156,30 +185,6 @@ fn moved(acf: [i32; 9], scalvad: i16, s: State) -> Middle
         return unmoved(s);
     }
     spectral(acf, scalvad, s)
-}
-
-// The nine numbers, by value.
-fn nine(acf: &[i32]) -> [i32; 9]
-    requires { ⌜ length (now acf) ≡ 9 ⌝ }
-    ensures { λ r. ⌜ r ≡ now (acf .entry) ⌝ }
-{
-    let mut out = [0i32; 9];
-    for i in 0..9 {
-        out[i] = acf[i];
-    }
-    out
-}
-
-// The four lags, by value.
-fn four(lags: &[u16]) -> [u16; 4]
-    requires { ⌜ length (now lags) ≡ 4 ⌝ }
-    ensures { λ r. ⌜ r ≡ now (lags .entry) ⌝ }
-{
-    let mut out = [0u16; 4];
-    for i in 0..4 {
-        out[i] = lags[i];
-    }
-    out
 }
 
 // A frame that is accepted.

@@ -31,10 +31,10 @@ abbrev μ-loop : tie.MeasureT-loop
 μ-loop acf first top i₀ i = 9 - i
 
 -- the first number
-first-fits : (c : tie.After-first Inv-loop μ-loop) → SFits w32 (at (c .before .args .acf .now) 0)
-first-fits c = ranged w32 (at (c .before .args .acf .now) 0) (c .first .given)
+first-fits : (c : tie.After-first Inv-loop μ-loop) → SFits w32 (at (c .before .args .t1) 0)
+first-fits c = ranged w32 (at (c .before .args .t1) 0) (c .first .given)
 
-not-below : (c : tie.Else1 Inv-loop μ-loop) → ltZ (at (c .before .before .args .acf .now) 0) (pos 0) ≡ false
+not-below : (c : tie.Else1 Inv-loop μ-loop) → ltZ (at (c .before .before .args .t1) 0) (pos 0) ≡ false
 not-below c = let f = first-fits (c .before) in simp zreads at (c .if1 .left)
 
 -- a number whose magnitude is above that of the first, and one whose is not
@@ -44,25 +44,25 @@ above x z t h = omega (zarith, of z, sign z)
 under : (x z : ℤ) → leZ (pos 0) z ≡ true → natAbs x ≤ natAbs z → leZ (pos (natAbs x)) z ≡ true
 under x z t h = omega (zarith, of z, sign z)
 
-size : (c : tie.After-magnitude Inv-loop μ-loop) → c .magnitude .result ≡ natAbs (at (c .before .before .before .before .before .before .args .acf .now) (c .before .before .before .loop .i))
+size : (c : tie.After-magnitude Inv-loop μ-loop) → c .magnitude .result ≡ natAbs (at (c .before .before .before .before .before .before .args .t1) (c .before .before .before .loop .i))
 size c =
-    let x = at (c .before .before .before .before .before .before .args .acf .now) (c .before .before .before .loop .i) in
+    let x = at (c .before .before .before .before .before .before .args .t1) (c .before .before .before .loop .i) in
     let f = ranged w32 x (c .before .magnitude-arg .given) in
     simp zreads at (c .magnitude .ensures)
 
-shared-slice-copy-out-first : tie.Need-shared-slice-copy-out-first Inv-loop μ-loop
-shared-slice-copy-out-first c = search needs
+array-copy-out-first : tie.Need-array-copy-out-first Inv-loop μ-loop
+array-copy-out-first c = search needs
 
 returns : tie.Need-returns Inv-loop μ-loop
 unfolding acfOk
 returns c =
     let b = c .before in
     let f = first-fits b in
-    rw (negative (at (b .before .args .acf .now) 0) (simp zreads at (c .if1 .taken)))
+    rw (negative (at (b .before .args .t1) 0) (simp zreads at (c .if1 .taken)))
 
 cast-top : tie.Need-cast-top Inv-loop μ-loop
 cast-top c =
-    let z = at (c .before .before .args .acf .now) 0 in
+    let z = at (c .before .before .args .t1) 0 in
     let f = first-fits (c .before) in
     let t = not-below c in
     simp zreads (omega zarith, record { fits = omega (zarith, of z, sign z, f .sfits) })
@@ -70,7 +70,7 @@ cast-top c =
 loop-holds : tie.Need-loop-holds Inv-loop μ-loop
 unfolding acfOk
 loop-holds c =
-    let l = c .before .before .args .acf .now in
+    let l = c .before .before .args .t1 in
     let f = first-fits (c .before) in
     let t = not-negative (at l 0) (not-below c) in
     (omega arith, simp zreads, t, rw t)
@@ -78,8 +78,8 @@ loop-holds c =
 mul-magnitude : tie.Need-mul-magnitude Inv-loop μ-loop
 mul-magnitude c = search needs
 
-shared-slice-copy-out-magnitude : tie.Need-shared-slice-copy-out-magnitude Inv-loop μ-loop
-shared-slice-copy-out-magnitude c = search needs
+array-copy-out-magnitude : tie.Need-array-copy-out-magnitude Inv-loop μ-loop
+array-copy-out-magnitude c = search needs
 
 magnitude-requires : tie.Need-magnitude-requires Inv-loop μ-loop
 magnitude-requires c κs = search needs
@@ -88,9 +88,9 @@ returns-2 : tie.Need-returns-2 Inv-loop μ-loop
 returns-2 c =
     let m = c .before in
     let a = c .before .before .before .before in
-    let l = c .before .before .before .before .before .before .before .args .acf .now in
+    let l = c .before .before .before .before .before .before .before .args .t1 in
     let x = at l (a .loop .i) in
-    let in-row : a .loop .i < length l = omega (arith, c .before .before .before .before .before .before .before .pre) in
+    let in-row : a .loop .i < length l = omega arith in
     let big : natAbs (at l 0) < natAbs x = omega (arith, size m, a .loop .inv .1) in
     sym (sym (a .loop .inv .3) ∙ all-no (tested l) l (a .loop .i) (pos 0) in-row (above x (at l 0) (a .loop .inv .2) big))
 
@@ -104,17 +104,17 @@ loop-again : tie.Need-loop-again Inv-loop μ-loop
 loop-again c =
     let m = c .before in
     let a = c .before .before .before .before in
-    let l = c .before .before .before .before .before .before .before .args .acf .now in
+    let l = c .before .before .before .before .before .before .before .args .t1 in
     let x = at l (a .loop .i) in
-    let in-row : a .loop .i < length l = omega (arith, c .before .before .before .before .before .before .before .pre) in
+    let in-row : a .loop .i < length l = omega arith in
     let small : natAbs x ≤ natAbs (at l 0) = omega (arith, size m, a .loop .inv .1) in
     (omega arith, a .loop .inv .1, a .loop .inv .2, sym (all-yes (tested l) l (a .loop .i) (pos 0) in-row (under x (at l 0) (a .loop .inv .2) small)) ∙ a .loop .inv .3)
 
 returns-3 : tie.Need-returns-3 Inv-loop μ-loop
 returns-3 c =
     let a = c .before in
-    let l = c .before .before .before .before .args .acf .now in
-    sym (all-end (tested l) l (a .loop .i) (omega (arith, c .before .before .before .before .pre))) ∙ a .loop .inv .3
+    let l = c .before .before .before .before .args .t1 in
+    sym (all-end (tested l) l (a .loop .i) (omega arith)) ∙ a .loop .inv .3
 
 pub acf-ok-spec : {M : Type 1} → statement M
 acf-ok-spec =
@@ -122,12 +122,12 @@ acf-ok-spec =
     (tie.spec
     Inv-loop
     μ-loop
-    shared-slice-copy-out-first
+    array-copy-out-first
     returns
     cast-top
     loop-holds
     mul-magnitude
-    shared-slice-copy-out-magnitude
+    array-copy-out-magnitude
     magnitude-requires
     returns-2
     add-i

@@ -24,17 +24,17 @@ loop-holds c = (omega arith, refl)
 mul-lag-ok : tie.Need-mul-lag-ok Inv-loop μ-loop
 mul-lag-ok c = search needs
 
-shared-slice-read-lag-ok : tie.Need-shared-slice-read-lag-ok Inv-loop μ-loop
-shared-slice-read-lag-ok c = search needs
+array-read-lag-ok : tie.Need-array-read-lag-ok Inv-loop μ-loop
+array-read-lag-ok c = search needs
 
 lag-ok-requires : tie.Need-lag-ok-requires Inv-loop μ-loop
 lag-ok-requires c κs = search needs
 
 returns : tie.Need-returns Inv-loop μ-loop
 returns c =
-    let a = c .before .before .before .before in
-    let l = a .before .before .args .lags .now in
-    let in-row : a .loop .i < length l = omega (arith, a .before .before .pre) in
+    let a = c .before .before .before in
+    let l = a .before .args .t1 in
+    let in-row : a .loop .i < length l = omega arith in
     sym (sym (a .loop .inv .1) ∙ all-no lagOk l (a .loop .i) 0 in-row (sym (c .before .lag-ok .ensures) ∙ c .if1 .left))
 
 add-i : tie.Need-add-i Inv-loop μ-loop
@@ -45,16 +45,16 @@ loop-less c = search needs
 
 loop-again : tie.Need-loop-again Inv-loop μ-loop
 loop-again c =
-    let a = c .before .before .before .before in
-    let l = a .before .before .args .lags .now in
-    let in-row : a .loop .i < length l = omega (arith, a .before .before .pre) in
+    let a = c .before .before .before in
+    let l = a .before .args .t1 in
+    let in-row : a .loop .i < length l = omega arith in
     (omega arith, sym (all-yes lagOk l (a .loop .i) 0 in-row (sym (c .before .lag-ok .ensures) ∙ c .if1 .taken)) ∙ a .loop .inv .1)
 
 returns-2 : tie.Need-returns-2 Inv-loop μ-loop
 returns-2 c =
     let a = c .before in
-    let l = a .before .before .args .lags .now in
-    sym (all-end lagOk l (a .loop .i) (omega (arith, a .before .before .pre))) ∙ a .loop .inv .1
+    let l = a .before .args .t1 in
+    sym (all-end lagOk l (a .loop .i) (omega arith)) ∙ a .loop .inv .1
 
 pub lags-ok-spec : {M : Type 1} → statement M
 lags-ok-spec =
@@ -64,7 +64,7 @@ lags-ok-spec =
     μ-loop
     loop-holds
     mul-lag-ok
-    shared-slice-read-lag-ok
+    array-read-lag-ok
     lag-ok-requires
     returns
     add-i
