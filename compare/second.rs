@@ -1,0 +1,433 @@
+//! A second implementation of the uplink voice activity detector, to compare the first one with. It shares no code with it: it is written from
+//! GSM 06.32, clause 6 (the clause numbers stand beside each part), and document 01, in plain Rust, with every number an i64.
+
+pub const LINE: usize = 82;
+
+/// What is kept from frame to frame.
+#[derive(Clone, Debug, PartialEq, Eq)]
+pub struct Memory {
+    pub rvad: [i64; 9],
+    pub normrvad: i64,
+    pub l_sacf: [i64; 27],
+    pub pt_sacf: i64,
+    pub l_sav0: [i64; 36],
+    pub pt_sav0: i64,
+    pub lastdm: i64,
+    pub e_thvad: i64,
+    pub m_thvad: i64,
+    pub adaptcount: i64,
+    pub burstcount: i64,
+    pub hangcount: i64,
+    pub oldlagcount: i64,
+    pub veryoldlagcount: i64,
+    pub oldlag: i64,
+}
+
+/// What a frame is answered.
+#[derive(Clone, Debug, PartialEq, Eq)]
+pub struct Answer {
+    pub refusal: i64,
+    pub vad: i64,
+    pub vvad: i64,
+    pub acf0: (i64, i64),
+    pub pvad: (i64, i64),
+    pub next: Memory,
+}
+
+// ---- GSM 06.10
+
+fn sat16(x: i64) -> i64 {
+    x.max(-32768).min(32767)
+}
+fn sat32(x: i64) -> i64 {
+    x.max(-2147483648).min(2147483647)
+}
+fn add(a: i64, b: i64) -> i64 {
+    sat16(a + b)
+}
+fn sub(a: i64, b: i64) -> i64 {
+    sat16(a - b)
+}
+fn l_add(a: i64, b: i64) -> i64 {
+    sat32(a + b)
+}
+fn l_sub(a: i64, b: i64) -> i64 {
+    sat32(a - b)
+}
+fn l_mult(a: i64, b: i64) -> i64 {
+    sat32(2 * a * b)
+}
+fn mult_r(a: i64, b: i64) -> i64 {
+    sat16((a * b + 16384) >> 15)
+}
+fn abs(a: i64) -> i64 {
+    sat16(a.abs())
+}
+/// The shift that brings a positive number into 2^30..2^31-1.
+fn norm(x: i64) -> i64 {
+    let mut n = 0;
+    if x > 0 {
+        while x << n < 1 << 30 {
+            n += 1;
+        }
+    }
+    n
+}
+fn div(a: i64, b: i64) -> i64 {
+    if a == 0 {
+        0
+    } else if a == b {
+        32767
+    } else {
+        (a << 15) / b
+    }
+}
+/// A shift of a long variable: to the left it drops bits, to the right it rounds down.
+fn shl(x: i64, n: i64) -> i64 {
+    if n < 0 {
+        return shr(x, -n);
+    }
+    if n > 31 {
+        0
+    } else {
+        ((x as i32) << n) as i64
+    }
+}
+fn shr(x: i64, n: i64) -> i64 {
+    if n < 0 {
+        return shl(x, -n);
+    }
+    x >> n.min(63)
+}
+
+impl Memory {
+    pub fn reset() -> Memory {
+        let mut rvad = [0; 9];
+        rvad[0] = 24576;
+        rvad[1] = -16384;
+        rvad[2] = 4096;
+        Memory {
+            rvad,
+            normrvad: 7,
+            l_sacf: [0; 27],
+            pt_sacf: 0,
+            l_sav0: [0; 36],
+            pt_sav0: 0,
+            lastdm: 0,
+            e_thvad: 20,
+            m_thvad: 31250,
+            adaptcount: 0,
+            burstcount: 0,
+            hangcount: -1,
+            oldlagcount: 0,
+            veryoldlagcount: 0,
+            oldlag: 40,
+        }
+    }
+
+    pub fn valid(&self) -> bool {
+        let pointer = |p: i64, last: i64| (0..=last).contains(&p) && p % 9 == 0;
+        let weight: i64 = self.rvad[1..].iter().map(|x| x.abs()).sum();
+        pointer(self.pt_sacf, 18)
+            && pointer(self.pt_sav0, 27)
+            && self.l_sacf.iter().all(|x| (-536870912..=536870911).contains(x))
+            && (0..3).all(|k| self.l_sacf[9 * k] >= 0)
+            && (0..4).all(|k| self.l_sav0[9 * k] >= 0)
+            && (16384..=32767).contains(&self.rvad[0])
+            && weight <= 4 * self.rvad[0] + 11
+            && (2..=9).contains(&self.normrvad)
+            && (16384..=32767).contains(&self.m_thvad)
+            && (-32..=64).contains(&self.e_thvad)
+            && (0..=9).contains(&self.adaptcount)
+            && (0..=3).contains(&self.burstcount)
+            && (-1..=5).contains(&self.hangcount)
+            && (0..=4).contains(&self.oldlagcount)
+            && (0..=4).contains(&self.veryoldlagcount)
+            && (40..=120).contains(&self.oldlag)
+    }
+}
+
+/// Refusals 2, 3 and 4 of a frame by itself, or 0.
+pub fn frame_refusal(acf: &[i64], lags: &[i64], scal: i64) -> i64 {
+    if !(0..=4).contains(&scal) {
+        2
+    } else if acf[0] < 0 || acf.iter().any(|x| x.abs() > acf[0]) {
+        3
+    } else if lags.iter().any(|n| !(40..=120).contains(n)) {
+        4
+    } else {
+        0
+    }
+}
+
+/// One frame.
+pub fn step(acf: &[i64], lags: &[i64], scal: i64, memory: &Memory) -> Answer {
+    let refusal = if acf.len() != 9 || lags.len() != 4 {
+        1
+    } else if !memory.valid() {
+        5
+    } else {
+        frame_refusal(acf, lags, scal)
+    };
+    if refusal != 0 {
+        return Answer { refusal, vad: 0, vvad: 0, acf0: (0, 0), pvad: (0, 0), next: memory.clone() };
+    }
+    let mut s = memory.clone();
+
+    // 6.1
+    let (mut acf0, mut pvad) = ((-32768, 0), (-32768, 0));
+    if acf[0] != 0 {
+        let a = norm(acf[0]);
+        let sacf: Vec<i64> = acf.iter().map(|x| shr(shl(*x, a), 19)).collect();
+        acf0 = (32 + 2 * scal - a, 8 * sacf[0]);
+        let mut l = 0;
+        for i in 1..9 {
+            l = l_add(l, l_mult(sacf[i], s.rvad[i]));
+        }
+        l = l_add(l, shr(l_mult(sacf[0], s.rvad[0]), 1));
+        if l <= 0 {
+            l = 1;
+        }
+        let p = norm(l);
+        pvad = (acf0.0 + 14 - s.normrvad - p, shr(shl(l, p), 16));
+    }
+
+    // 6.2 to 6.4, which an all-zero frame leaves out
+    let mut stat = false;
+    let mut rav1 = [0i64; 9];
+    let mut normrav1 = 0;
+    if acf[0] != 0 {
+        let (av0, av1) = averages(acf, scal, &mut s);
+        let vpar = schur(&av1);
+        let aav1 = step_up(&vpar);
+        let mut work = [0i64; 9];
+        for i in 0..9 {
+            for k in 0..9 - i {
+                work[i] = l_add(work[i], l_mult(aav1[k], aav1[k + i]));
+            }
+        }
+        normrav1 = norm(work[0]);
+        for i in 0..9 {
+            rav1[i] = shr(shl(work[i], normrav1), 16);
+        }
+        let dm = measure(&av0, &rav1, normrav1);
+        let mut moved = l_sub(dm, s.lastdm);
+        s.lastdm = dm;
+        if moved < 0 {
+            moved = l_sub(0, moved);
+        }
+        stat = l_sub(moved, 3277) < 0;
+    }
+
+    // 6.5
+    let ptch = s.oldlagcount + s.veryoldlagcount >= 4;
+
+    // 6.6
+    if acf0 < (19, 18750) {
+        (s.e_thvad, s.m_thvad) = (20, 25000);
+    } else if ptch || !stat {
+        s.adaptcount = 0;
+    } else {
+        s.adaptcount += 1;
+        if s.adaptcount > 8 {
+            (s.e_thvad, s.m_thvad) = adapt((s.e_thvad, s.m_thvad), pvad);
+            s.rvad = rav1;
+            s.normrvad = normrav1;
+            s.adaptcount = 9;
+        }
+    }
+
+    // 6.7
+    let vvad = pvad > (s.e_thvad, s.m_thvad);
+
+    // 6.8
+    s.burstcount = if vvad { s.burstcount + 1 } else { 0 };
+    if s.burstcount >= 3 {
+        s.hangcount = 5;
+        s.burstcount = 3;
+    }
+    let vad = vvad || s.hangcount >= 0;
+    if s.hangcount >= 0 {
+        s.hangcount -= 1;
+    }
+
+    // 6.9
+    let mut count = 0;
+    for lag in lags {
+        let (low, high) = (s.oldlag.min(*lag), s.oldlag.max(*lag));
+        let rest = high % low;
+        if rest.min(low - rest) < 2 {
+            count += 1;
+        }
+        s.oldlag = *lag;
+    }
+    s.veryoldlagcount = s.oldlagcount;
+    s.oldlagcount = count;
+
+    Answer { refusal: 0, vad: vad as i64, vvad: vvad as i64, acf0, pvad, next: s }
+}
+
+/// 6.2: the average of this frame and the three before it, and the one of four frames before.
+fn averages(acf: &[i64], scal: i64, s: &mut Memory) -> ([i64; 9], [i64; 9]) {
+    let (mut av0, mut av1) = ([0; 9], [0; 9]);
+    for i in 0..9 {
+        let temp = shr(acf[i], 10 - 2 * scal);
+        av0[i] = l_add(s.l_sacf[i], temp);
+        av0[i] = l_add(s.l_sacf[i + 9], av0[i]);
+        av0[i] = l_add(s.l_sacf[i + 18], av0[i]);
+        s.l_sacf[s.pt_sacf as usize + i] = temp;
+        av1[i] = s.l_sav0[s.pt_sav0 as usize + i];
+        s.l_sav0[s.pt_sav0 as usize + i] = av0[i];
+    }
+    s.pt_sacf = if s.pt_sacf == 18 { 0 } else { s.pt_sacf + 9 };
+    s.pt_sav0 = if s.pt_sav0 == 27 { 0 } else { s.pt_sav0 + 9 };
+    (av0, av1)
+}
+
+/// 6.3.1: the reflection coefficients, vpar[1..8].
+fn schur(av1: &[i64; 9]) -> [i64; 9] {
+    let mut vpar = [0; 9];
+    if av1[0] == 0 {
+        return vpar;
+    }
+    let temp = norm(av1[0]);
+    let mut p = [0i64; 9];
+    let mut k = [0i64; 9];
+    for i in 0..9 {
+        p[i] = shr(shl(av1[i], temp), 16);
+    }
+    for i in 1..8 {
+        k[9 - i] = p[i];
+    }
+    for n in 1..9 {
+        if p[0] < abs(p[1]) {
+            return vpar;
+        }
+        vpar[n] = div(abs(p[1]), p[0]);
+        if p[1] > 0 {
+            vpar[n] = sub(0, vpar[n]);
+        }
+        if n == 8 {
+            return vpar;
+        }
+        p[0] = add(p[0], mult_r(p[1], vpar[n]));
+        for m in 1..9 - n {
+            let (x, y) = (p[m + 1], k[9 - m]);
+            p[m] = add(x, mult_r(y, vpar[n]));
+            k[9 - m] = add(y, mult_r(x, vpar[n]));
+        }
+    }
+    vpar
+}
+
+/// 6.3.2: aav1[0..8].
+fn step_up(vpar: &[i64; 9]) -> [i64; 9] {
+    let mut coef = [0i64; 9];
+    coef[0] = 16384 << 15;
+    coef[1] = vpar[1] << 14;
+    for m in 2..9 {
+        let before = coef;
+        for i in 1..m {
+            coef[i] = l_add(before[i], l_mult(vpar[m], shr(before[m - i], 16)));
+        }
+        coef[m] = vpar[m] << 14;
+    }
+    let mut aav1 = [0; 9];
+    for i in 0..9 {
+        aav1[i] = shr(coef[i], 19);
+    }
+    aav1
+}
+
+/// 6.4: L_dm.
+fn measure(av0: &[i64; 9], rav1: &[i64; 9], normrav1: i64) -> i64 {
+    let mut sav0 = [4095i64; 9];
+    if av0[0] != 0 {
+        let shift = norm(av0[0]);
+        for i in 0..9 {
+            sav0[i] = shr(shl(av0[i], shift - 3), 16);
+        }
+    }
+    let mut sum = 0;
+    for i in 1..9 {
+        sum = l_add(sum, l_mult(rav1[i], sav0[i]));
+    }
+    let size = if sum < 0 { l_sub(0, sum) } else { sum };
+    let mut dm = 0;
+    let mut shift = 0;
+    if size != 0 {
+        let first = sav0[0] << 3;
+        shift = norm(size);
+        let temp = shr(shl(size, shift), 16);
+        dm = if first >= temp { div(temp, first) } else { 32768 + div(temp - first, first) } << 1;
+        if sum < 0 {
+            dm = -dm;
+        }
+    }
+    dm = shr(shl(dm, 14), shift);
+    dm = l_add(dm, rav1[0] << 11);
+    shr(dm, normrav1)
+}
+
+/// 6.6: the new threshold.
+fn adapt(thvad: (i64, i64), pvad: (i64, i64)) -> (i64, i64) {
+    let halved = |e: i64, m: i64| if m > 32767 { (e + 1, m >> 1) } else { (e, m) };
+    let (mut e, mut m) = thvad;
+    m -= m >> 5;
+    if m < 16384 {
+        m <<= 1;
+        e -= 1;
+    }
+    let top = halved(pvad.0 + 1, (3 * pvad.1) >> 1);
+    if (e, m) < top {
+        (e, m) = halved(e, m + (m >> 4)).min(top);
+    }
+    let cap = if pvad.0 == 27 {
+        (28, (pvad.1 + 19531) >> 1)
+    } else if pvad.0 > 27 {
+        halved(pvad.0, pvad.1 + (19531 >> (pvad.0 - 27).min(40)))
+    } else {
+        halved(27, 19531 + (pvad.1 >> (27 - pvad.0).min(40)))
+    };
+    (e, m).min(cap)
+}
+
+// ---- trace lines
+
+/// A line with its line feed: the frame, or refusal 6, 2, 3 or 4.
+pub fn decode(line: &[u8]) -> Result<(Vec<i64>, Vec<i64>, i64), i64> {
+    let digit = |b: u8| b"0123456789ABCDEF".iter().position(|d| *d == b).map(|v| v as i64);
+    if line.len() != LINE || line[81] != b'\n' {
+        return Err(6);
+    }
+    let mut digits = Vec::with_capacity(81);
+    for b in &line[..81] {
+        digits.push(digit(*b).ok_or(6)?);
+    }
+    let number = |at: usize, n: usize| digits[at..at + n].iter().fold(0i64, |x, d| 16 * x + d);
+    let acf: Vec<i64> = (0..9).map(|i| number(8 * i, 8) as u32 as i32 as i64).collect();
+    let lags: Vec<i64> = (0..4).map(|i| number(73 + 2 * i, 2)).collect();
+    let scal = number(72, 1);
+    match frame_refusal(&acf, &lags, scal) {
+        0 => Ok((acf, lags, scal)),
+        n => Err(n),
+    }
+}
+
+/// The answers to a whole trace.
+pub fn run(trace: &[u8]) -> Vec<u8> {
+    let mut memory = Memory::reset();
+    let mut out = Vec::with_capacity(trace.len() / LINE * 4 + 4);
+    for line in trace.split_inclusive(|b| *b == b'\n') {
+        let (refusal, vad, vvad) = match decode(line) {
+            Ok((acf, lags, scal)) => {
+                let r = step(&acf, &lags, scal, &memory);
+                memory = r.next;
+                (r.refusal, r.vad, r.vvad)
+            }
+            Err(n) => (n, 0, 0),
+        };
+        out.extend([48 + refusal as u8, 48 + vad as u8, 48 + vvad as u8, b'\n']);
+    }
+    out
+}

@@ -1,0 +1,5 @@
+pub mod Linear
+pub mod Distance
+pub mod Decision
+pub mod Reported
+pub mod Meets

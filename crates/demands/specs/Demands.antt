@@ -1,0 +1,60 @@
+-- The demands on the detector, in the words of document 01. Read this file first: each record below is one demand, a statement about `stepOf`, which
+-- is what the function `detector::step` promises to answer for every input (its `ensures`). The proofs stand in proofs/. That every call ends and
+-- that nothing overflows is what the toolchain proves of every function; the lent buffers are lent for reading only, so no call writes to them.
+-- Assumes nothing.
+use mathlib.Core.Path.{_≡_}
+use mathlib.Core.Bool.{true, false}
+use mathlib.Core.List.{List}
+use mathlib.Core.Logic.{_↔_}
+use Prim.Native.Nat.{ℕ, suc, _+_, _^_, _≤_}
+use lib.IntN.{ℤ, pos, _+ℤ_, _-ℤ_, _*ℤ_}
+use lib.Signed.{_≤ℤ_, _<ℤ_}
+use Rattle.numbers.specs.Sum.{at, sum}
+use Rattle.operations.specs.Operations.{L-mult}
+use Rattle.rows.specs.Rows.{L-sum}
+use Rattle.pairs.specs.Pairs.{pair}
+use Rattle.energy.specs.Energy.{sacfOf}
+use Rattle.energy.specs.Exact.{exactOf}
+use Rattle.state.specs.declared.State.{State}
+use Rattle.state.specs.Valid.{validOf, Shaped}
+use Rattle.detector.specs.declared.Answer.{Answer}
+use Rattle.detector.specs.Refusal.{lengthsOk, scaleOk, acfOk, lagsOk}
+use Rattle.detector.specs.Step.{acceptedOf}
+use Rattle.demands.specs.Distance.{EOf, LOf, aOf, pOf, distanceOf, smallOf, energyUnits, distanceUnits, pairUnits}
+
+-- ---- 1. "A bad buffer, scale, autocorrelation, lag or state is refused with the number in document 01. A refusal hands back the state it got."
+pub record Demand1 (L-ACF : List ℤ) (lags : List ℕ) (scalvad : ℤ) (s : State) (r : Answer) : Type 0 where
+  pub number-1 : (r .refusal ≡ 1) ↔ (lengthsOk L-ACF lags ≡ false)
+  pub number-5 : (r .refusal ≡ 5) ↔ ((lengthsOk L-ACF lags ≡ true) × (validOf s ≡ false))
+  pub number-2 : (r .refusal ≡ 2) ↔ ((lengthsOk L-ACF lags ≡ true) × (validOf s ≡ true) × (scaleOk scalvad ≡ false))
+  pub number-3 : (r .refusal ≡ 3) ↔ ((lengthsOk L-ACF lags ≡ true) × (validOf s ≡ true) × (scaleOk scalvad ≡ true) × (acfOk L-ACF ≡ false))
+  pub number-4 : (r .refusal ≡ 4) ↔ ((lengthsOk L-ACF lags ≡ true) × (validOf s ≡ true) × (scaleOk scalvad ≡ true) × (acfOk L-ACF ≡ true) × (lagsOk lags ≡ false))
+  pub number-0 : (r .refusal ≡ 0) ↔ ((lengthsOk L-ACF lags ≡ true) × (validOf s ≡ true) × (scaleOk scalvad ≡ true) × (acfOk L-ACF ≡ true) × (lagsOk lags ≡ true))
+  pub no-flag : (r .refusal ≡ 0 → ⊥) → (r .vad ≡ false) × (r .vvad ≡ false)
+  pub no-energy : (r .refusal ≡ 0 → ⊥) → (r .acf0 ≡ pair (pos 0) (pos 0)) × (r .pvad ≡ pair (pos 0) (pos 0))
+  pub as-given : (r .refusal ≡ 0 → ⊥) → r .next ≡ s
+
+-- ---- 2. "For every accepted frame the flags, both energies and the whole next state are those of clauses 6.1 to 6.9", and a step keeps validity.
+pub record Demand2 (L-ACF : List ℤ) (lags : List ℕ) (scalvad : ℤ) (s : State) (r : Answer) : Type 0 where
+  pub clauses : r .refusal ≡ 0 → r ≡ acceptedOf L-ACF lags scalvad s
+  pub kept : validOf s ≡ true → validOf (r .next) ≡ true
+  pub shaped : validOf s ≡ true → Shaped (r .next)
+
+-- ---- 3. "The filter sum never saturates, and the reported energy lies within a stated distance of the exact one; so the raw decision is right
+-- outside that distance." For an accepted frame with energy: L_ACF[0] above 0. The filter and normrvad are those at entry; the threshold in force is
+-- thvad after 6.6, which is the one that the answer hands on.
+pub record Demand3 (L-ACF : List ℤ) (scalvad : ℤ) (s : State) (r : Answer) : Type 0 where
+  -- no partial sum of the filter saturates, so L is the plain sum
+  pub partial-sums : (n : ℕ) → n ≤ 8 → L-sum n (λ k. L-mult (sacfOf L-ACF (suc k)) (at (s .rvad) (suc k))) ≡ sum n (λ k. at (s .rvad) (suc k) *ℤ sacfOf L-ACF (suc k) *ℤ pos 2)
+  pub plain-sum : LOf L-ACF (s .rvad) ≡ exactOf (at (s .rvad)) (sacfOf L-ACF)
+  -- L positive: E·2^(a+p) differs from m·2^35 by at most the distance, and the exponent is 46 + 2·scalvad - a - normrvad - p
+  pub not-below : pos 0 <ℤ LOf L-ACF (s .rvad) → (r .pvad .m *ℤ pos (2 ^ 35)) ≤ℤ (EOf L-ACF (s .rvad) *ℤ pos (2 ^ (aOf L-ACF + pOf L-ACF (s .rvad))) +ℤ pos (distanceOf L-ACF (s .rvad)))
+  pub not-above : pos 0 <ℤ LOf L-ACF (s .rvad) → (EOf L-ACF (s .rvad) *ℤ pos (2 ^ (aOf L-ACF + pOf L-ACF (s .rvad)))) ≤ℤ (r .pvad .m *ℤ pos (2 ^ 35) +ℤ pos (distanceOf L-ACF (s .rvad)))
+  pub exponent : pos 0 <ℤ LOf L-ACF (s .rvad) → r .pvad .e ≡ pos 46 +ℤ scalvad *ℤ pos 2 -ℤ pos (aOf L-ACF) -ℤ s .normrvad -ℤ pos (pOf L-ACF (s .rvad))
+  -- L not positive: E·2^a is at most the small bound
+  pub small : LOf L-ACF (s .rvad) ≤ℤ pos 0 → (EOf L-ACF (s .rvad) *ℤ pos (2 ^ aOf L-ACF)) ≤ℤ pos (smallOf (s .rvad))
+  -- L positive: speech if the exact energy beats the threshold in force by more than the distance, quiet if it falls short by at least the distance
+  pub speech : pos 0 <ℤ LOf L-ACF (s .rvad)
+      → (pos (pairUnits (r .next .thvad) + distanceUnits L-ACF (s .rvad) scalvad (s .normrvad))) <ℤ (energyUnits L-ACF (s .rvad) scalvad (s .normrvad)) → r .vvad ≡ true
+  pub quiet : pos 0 <ℤ LOf L-ACF (s .rvad)
+      → (energyUnits L-ACF (s .rvad) scalvad (s .normrvad) +ℤ pos (distanceUnits L-ACF (s .rvad) scalvad (s .normrvad))) ≤ℤ (pos (pairUnits (r .next .thvad))) → r .vvad ≡ false

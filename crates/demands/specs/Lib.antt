@@ -1,0 +1,3 @@
+pub mod Distance
+pub mod Demands
+pub mod Worked
