@@ -1,0 +1,272 @@
+// The detector's interface for C and Rust: a state and an answer as lent runs of numbers of 32 bits.
+ghost use mathlib.Core.Path.{_≡_};
+ghost use mathlib.Core.Bool.{true};
+ghost use Prim.Native.Nat.{_+_, _≤_};
+ghost use lib.ListN.{length};
+ghost use Rattle.card.specs.Run as card;
+use detector::Answer;
+use detector::step;
+use pairs::Pair;
+use state::State;
+use state::within;
+
+// ---- a state from a run
+
+// Whether each of the numbers from `first` on is one of 16 bits.
+fn shorts(run: [i32; 84], first: usize, count: usize) -> bool
+    requires { ⌜ first + count ≤ 84 ⌝ }
+    ensures { λ r. ⌜ r ≡ card.shortsOf (card.part first count run) ⌝ }
+{
+    for i in 0..count {
+        if within(-32768, 32767, run[first + i]) {} else {
+            return false;
+        }
+    }
+    true
+}
+
+// Whether each number fits its field.
+fn narrow(run: [i32; 84]) -> bool
+    ensures { λ r. ⌜ r ≡ card.narrowOf run ⌝ }
+{
+    if shorts(run, 0, 10) {} else {
+        return false;
+    }
+    if shorts(run, 76, 7) {} else {
+        return false;
+    }
+    if within(0, 27, run[37]) {} else {
+        return false;
+    }
+    if within(0, 27, run[74]) {} else {
+        return false;
+    }
+    within(0, 65535, run[83])
+}
+
+// The filter in a run.
+fn filter(run: [i32; 84]) -> [i16; 9]
+    requires { ⌜ card.narrowOf run ≡ true ⌝ }
+    ensures { λ r. ⌜ r ≡ card.part 0 9 run ⌝ }
+{
+    let mut out = [0i16; 9];
+    for i in 0..9 {
+        out[i] = run[i] as i16;
+    }
+    out
+}
+
+// The three frames in a run.
+fn frames(run: [i32; 84]) -> [i32; 27]
+    ensures { λ r. ⌜ r ≡ card.part 10 27 run ⌝ }
+{
+    let mut out = [0i32; 27];
+    for i in 0..27 {
+        out[i] = run[10 + i];
+    }
+    out
+}
+
+// The four averages in a run.
+fn sums(run: [i32; 84]) -> [i32; 36]
+    ensures { λ r. ⌜ r ≡ card.part 38 36 run ⌝ }
+{
+    let mut out = [0i32; 36];
+    for i in 0..36 {
+        out[i] = run[38 + i];
+    }
+    out
+}
+
+// The state in a run whose numbers fit.
+fn unpacked(run: [i32; 84]) -> State
+    requires { ⌜ card.narrowOf run ≡ true ⌝ }
+    ensures { λ r. ⌜ r ≡ card.stateOf run ⌝ }
+{
+    let rvad = filter(run);
+    let sacf = frames(run);
+    let sav0 = sums(run);
+    State {
+        rvad: rvad,
+        normrvad: run[9] as i16,
+        sacf: sacf,
+        ptsacf: run[37] as usize,
+        sav0: sav0,
+        ptsav0: run[74] as usize,
+        lastdm: run[75],
+        thvad: Pair {
+            e: run[76] as i16,
+            m: run[77] as i16,
+        },
+        adaptcount: run[78] as i16,
+        burstcount: run[79] as i16,
+        hangcount: run[80] as i16,
+        oldlagcount: run[81] as i16,
+        veryoldlagcount: run[82] as i16,
+        oldlag: run[83] as u16,
+    }
+}
+
+// ---- a run from a state
+
+// A run with the filter in its place.
+fn with_filter(run: [i32; 84], rvad: [i16; 9]) -> [i32; 84]
+    ensures { λ r. ⌜ r ≡ card.stored run 0 rvad 9 ⌝ }
+{
+    let mut out = run;
+    for i in 0..9 {
+        out[i] = rvad[i] as i32;
+    }
+    out
+}
+
+// A run with the three frames in their place.
+fn with_frames(run: [i32; 84], sacf: [i32; 27]) -> [i32; 84]
+    ensures { λ r. ⌜ r ≡ card.stored run 10 sacf 27 ⌝ }
+{
+    let mut out = run;
+    for i in 0..27 {
+        out[10 + i] = sacf[i];
+    }
+    out
+}
+
+// A run with the four averages in their place.
+fn with_sums(run: [i32; 84], sav0: [i32; 36]) -> [i32; 84]
+    ensures { λ r. ⌜ r ≡ card.stored run 38 sav0 36 ⌝ }
+{
+    let mut out = run;
+    for i in 0..36 {
+        out[38 + i] = sav0[i];
+    }
+    out
+}
+
+// A state as a run.
+fn packed(s: State) -> [i32; 84]
+    requires { ⌜ (s .ptsacf ≤ 27) × (s .ptsav0 ≤ 27) ⌝ }
+    ensures { λ r. ⌜ r ≡ card.runOf s ⌝ }
+{
+    let rvad = s.rvad;
+    let sacf = s.sacf;
+    let sav0 = s.sav0;
+    let thvad = s.thvad;
+    let lastdm = s.lastdm;
+    let a = with_filter([0i32; 84], rvad);
+    let b = with_frames(a, sacf);
+    let mut out = with_sums(b, sav0);
+    out[9] = s.normrvad as i32;
+    out[37] = s.ptsacf as i32;
+    out[74] = s.ptsav0 as i32;
+    out[75] = lastdm;
+    out[76] = thvad.e as i32;
+    out[77] = thvad.m as i32;
+    out[78] = s.adaptcount as i32;
+    out[79] = s.burstcount as i32;
+    out[80] = s.hangcount as i32;
+    out[81] = s.oldlagcount as i32;
+    out[82] = s.veryoldlagcount as i32;
+    out[83] = s.oldlag as i32;
+    out
+}
+
+// ---- what is lent
+
+// The 84 numbers of a lent run, by value.
+fn taken(state: &[i32]) -> [i32; 84]
+    requires { ⌜ length (now state) ≡ 84 ⌝ }
+    ensures { λ r. ⌜ r ≡ now (state .entry) ⌝ }
+{
+    let mut out = [0i32; 84];
+    for i in 0..84 {
+        out[i] = state[i];
+    }
+    out
+}
+
+// Stores a run into a lent one.
+fn put(state: &mut [i32], run: [i32; 84])
+    requires { ⌜ length (now state) ≡ 84 ⌝ }
+    ensures { λ _. ⌜ now (state .exit) ≡ run ⌝ }
+{
+    for i in 0..84 {
+        state[i] = run[i];
+    }
+}
+
+// 1 for a flag that is set and 0 for one that is not.
+fn bit(flag: bool) -> i32
+    ensures { λ r. ⌜ r ≡ card.bitOf flag ⌝ }
+{
+    if flag { 1 } else { 0 }
+}
+
+// Stores an answer into a lent run.
+fn put_answer(answer: &mut [i32], vad: bool, vvad: bool, acf0: Pair, pvad: Pair)
+    requires { ⌜ length (now answer) ≡ 6 ⌝ }
+    ensures { λ _. ⌜ now (answer .exit) ≡ card.answerRun vad vvad acf0 pvad ⌝ }
+{
+    answer[0] = bit(vad);
+    answer[1] = bit(vvad);
+    answer[2] = acf0.e as i32;
+    answer[3] = acf0.m as i32;
+    answer[4] = pvad.e as i32;
+    answer[5] = pvad.m as i32;
+}
+
+// ---- the interface
+
+// The state after a reset, into a lent run of 84 numbers: 0, or 1 for a run of another length.
+#[no_mangle]
+pub extern "C" fn lindenflax_reset(state: &mut [i32]) -> u8
+    ensures { λ r. ⌜ r ≡ card.resetNumber (now (state .entry)) ⌝ }
+    ensures { λ _. ⌜ now (state .exit) ≡ card.resetRun (now (state .entry)) ⌝ }
+{
+    if state.len() != 84 {
+        return 1;
+    }
+    put(state, packed(State::reset()));
+    0
+}
+
+// One frame: nine autocorrelations, four lags, the scale, the state, which becomes the next, and where the answer goes.
+#[no_mangle]
+pub extern "C" fn lindenflax_step(
+    acf: &[i32],
+    lags: &[u16],
+    scale: i16,
+    state: &mut [i32],
+    answer: &mut [i32],
+) -> u8
+    ensures { λ r. ⌜ r ≡ card.stepNumber (now (acf .entry)) (now (lags .entry)) scale (now (state .entry)) (now (answer .entry)) ⌝ }
+    ensures { λ _. ⌜ now (state .exit) ≡ card.stepRun (now (acf .entry)) (now (lags .entry)) scale (now (state .entry)) (now (answer .entry)) ⌝ }
+    ensures { λ _. ⌜ now (answer .exit) ≡ card.stepAnswer (now (acf .entry)) (now (lags .entry)) scale (now (state .entry)) (now (answer .entry)) ⌝ }
+{
+    if acf.len() != 9 {
+        return 1;
+    }
+    if lags.len() != 4 {
+        return 1;
+    }
+    if state.len() != 84 {
+        return 1;
+    }
+    if answer.len() != 6 {
+        return 1;
+    }
+    let run = taken(state);
+    if narrow(run) {} else {
+        return 5;
+    }
+    let a = step(acf, lags, scale, unpacked(run));
+    let number = a.refusal;
+    if number != 0 {
+        return number;
+    }
+    let next = a.next;
+    let acf0 = a.acf0;
+    let pvad = a.pvad;
+    put(state, packed(next));
+    put_answer(answer, a.vad, a.vvad, acf0, pvad);
+    0
+}

@@ -1,0 +1,4 @@
+pub mod Hex
+pub mod Line
+pub mod Answers
+pub mod Worked

@@ -1,0 +1,336 @@
+// Trace lines: a frame written as 81 upper-case hexadecimal digits and a line feed, and read back.
+ghost use mathlib.Core.Path.{_≡_};
+ghost use mathlib.Core.Bool.{true};
+ghost use mathlib.Core.List.{_++_, map};
+ghost use Prim.Native.Nat.{_+_, _≤_, _<_};
+ghost use lib.IntN.{pos};
+ghost use lib.ListN.{length, take, drop};
+ghost use mir.Syntax.{w32};
+ghost use mir.Val.{toZ, ofZ};
+ghost use Rattle.rows.specs.Rows.{row, all};
+ghost use Rattle.lines.specs.Hex as hex;
+ghost use Rattle.lines.specs.Line as frame;
+ghost use Rattle.lines.specs.Answers as answer;
+use detector::frame_refusal;
+use operations::magnitude;
+
+// A line read: its refusal number, and its frame or zeros.
+pub struct Decoded {
+    pub refusal: u8,
+    pub scale: i16,
+    pub acf: [i32; 9],
+    pub lags: [u16; 4],
+}
+
+// A line read into lent numbers and lags: its refusal number and its scale.
+pub struct Heading {
+    pub refusal: u8,
+    pub scale: i16,
+}
+
+// ---- digits
+
+// What a character is worth as a digit, 16 where it is none.
+fn value(b: u8) -> u8
+    ensures { λ r. ⌜ r ≡ hex.valueOf b ⌝ }
+{
+    if b < 48 {
+        return 16;
+    }
+    if b <= 57 {
+        return b - 48;
+    }
+    if b < 65 {
+        return 16;
+    }
+    if b <= 70 {
+        return b - 55;
+    }
+    16
+}
+
+// The character of a number below 16.
+fn digit(n: u8) -> u8
+    requires { ⌜ n < 16 ⌝ }
+    ensures { λ r. ⌜ r ≡ hex.digitOf n ⌝ }
+{
+    if n < 10 {
+        return 48 + n;
+    }
+    55 + n
+}
+
+// The number of a pattern of 32 bits.
+fn signed(x: u32) -> i32
+    ensures { λ r. ⌜ r ≡ toZ w32 x ⌝ }
+{
+    if x < 2147483648 {
+        return x as i32;
+    }
+    (x as i64 - 4294967296) as i32
+}
+
+// The pattern of a number of 32 bits.
+fn pattern(z: i32) -> u32
+    ensures { λ r. ⌜ r ≡ ofZ w32 z ⌝ }
+{
+    if z < 0 {
+        return (z as i64 + 4294967296) as u32;
+    }
+    z as u32
+}
+
+// The number that `k` digits from `at` on write.
+fn number(line: &[u8], at: usize, k: usize) -> u32
+    requires { ⌜ (k ≤ 8) × (at + k ≤ length (now line)) × (all hex.hexOf (take k (drop at (now line))) ≡ true) ⌝ }
+    ensures { λ r. ⌜ r ≡ hex.numberOf (take k (drop at (now (line .entry)))) ⌝ }
+{
+    let mut n: u32 = 0;
+    for i in 0..k {
+        let v = value(line[at + i]);
+        n = n * 16 + v as u32;
+    }
+    n
+}
+
+// Puts the `k` lowest digits of `x` at `at`.
+fn put(line: &mut [u8], at: usize, k: usize, x: u32)
+    requires { ⌜ at + k ≤ length (now line) ⌝ }
+    ensures { λ r. ⌜ now (line .exit) ≡ take at (now (line .entry)) ++ hex.digitsOf k x ++ drop (at + k) (now (line .entry)) ⌝ }
+{
+    let mut left = k;
+    let mut n = x;
+    while left > 0 {
+        left -= 1;
+        let d = (n % 16) as u8;
+        line[at + left] = digit(d);
+        n /= 16;
+    }
+}
+
+// ---- a line to read
+
+// Whether a line is 81 digits and a line feed.
+fn formed(line: &[u8]) -> bool
+    ensures { λ r. ⌜ r ≡ frame.formedOf (now (line .entry)) ⌝ }
+{
+    if line.len() != 82 {
+        return false;
+    }
+    for i in 0..81 {
+        let v = value(line[i]);
+        if v >= 16 {
+            return false;
+        }
+    }
+    line[81] == 10
+}
+
+// The nine numbers of a line.
+fn acf_of(line: &[u8]) -> [i32; 9]
+    requires { ⌜ frame.formedOf (now line) ≡ true ⌝ }
+    ensures { λ r. ⌜ r ≡ row 9 (frame.wordAt (now (line .entry))) ⌝ }
+{
+    let mut acf = [0i32; 9];
+    for i in 0..9 {
+        let x = number(line, 8 * i, 8);
+        acf[i] = signed(x);
+    }
+    acf
+}
+
+// The scale of a line.
+fn scale_of(line: &[u8]) -> i16
+    requires { ⌜ frame.formedOf (now line) ≡ true ⌝ }
+    ensures { λ r. ⌜ r ≡ pos (frame.fieldAt 1 (drop 72 (now (line .entry))) 0) ⌝ }
+{
+    let x = number(line, 72, 1);
+    x as i16
+}
+
+// The four lags of a line.
+fn lags_of(line: &[u8]) -> [u16; 4]
+    requires { ⌜ frame.formedOf (now line) ≡ true ⌝ }
+    ensures { λ r. ⌜ r ≡ row 4 (frame.fieldAt 2 (drop 73 (now (line .entry)))) ⌝ }
+{
+    let mut lags = [0u16; 4];
+    for i in 0..4 {
+        let x = number(line, 73 + 2 * i, 2);
+        lags[i] = x as u16;
+    }
+    lags
+}
+
+// The answer to a refused line.
+fn refused(n: u8) -> Decoded
+    ensures { λ r. ⌜ r ≡ answer.refusedOf n ⌝ }
+{
+    Decoded {
+        refusal: n,
+        scale: 0,
+        acf: [0i32; 9],
+        lags: [0u16; 4],
+    }
+}
+
+// Reads a line: its frame, or the first of 6, 2, 3, 4 that refuses it.
+pub fn decode(line: &[u8]) -> Decoded
+    ensures { λ r. ⌜ r ≡ answer.decodedOf (now (line .entry)) ⌝ }
+{
+    if formed(line) {} else {
+        return refused(6);
+    }
+    let acf = acf_of(line);
+    let scale = scale_of(line);
+    let lags = lags_of(line);
+    let n = frame_refusal(acf, lags, scale);
+    if n != 0 {
+        return refused(n);
+    }
+    Decoded {
+        refusal: 0,
+        scale,
+        acf,
+        lags,
+    }
+}
+
+// Stores nine numbers into a lent row of nine.
+fn store_acf(to: &mut [i32], acf: [i32; 9])
+    requires { ⌜ length (now to) ≡ 9 ⌝ }
+    ensures { λ r. ⌜ now (to .exit) ≡ acf ⌝ }
+{
+    for i in 0..9 {
+        to[i] = acf[i];
+    }
+}
+
+// Stores four lags into a lent row of four.
+fn store_lags(to: &mut [u16], lags: [u16; 4])
+    requires { ⌜ length (now to) ≡ 4 ⌝ }
+    ensures { λ r. ⌜ now (to .exit) ≡ lags ⌝ }
+{
+    for i in 0..4 {
+        to[i] = lags[i];
+    }
+}
+
+// Reads a line into lent numbers and lags, or gives the first of 1, 6, 2, 3, 4 that refuses it and leaves them as they were.
+pub fn read(line: &[u8], acf: &mut [i32], lags: &mut [u16]) -> Heading
+    ensures { λ r. ⌜ r ≡ answer.readOf (now (acf .entry)) (now (lags .entry)) (now (line .entry)) ⌝ }
+    ensures { λ r. ⌜ now (acf .exit) ≡ answer.acfAfter (now (acf .entry)) (now (lags .entry)) (now (line .entry)) ⌝ }
+    ensures { λ r. ⌜ now (lags .exit) ≡ answer.lagsAfter (now (acf .entry)) (now (lags .entry)) (now (line .entry)) ⌝ }
+{
+    if acf.len() != 9 {
+        return Heading {
+            refusal: 1,
+            scale: 0,
+        };
+    }
+    if lags.len() != 4 {
+        return Heading {
+            refusal: 1,
+            scale: 0,
+        };
+    }
+    let d = decode(line);
+    let n = d.refusal;
+    if n != 0 {
+        return Heading {
+            refusal: n,
+            scale: d.scale,
+        };
+    }
+    let a = d.acf;
+    let g = d.lags;
+    store_acf(acf, a);
+    store_lags(lags, g);
+    Heading {
+        refusal: 0,
+        scale: d.scale,
+    }
+}
+
+// ---- a frame to write
+
+// The nine lent numbers, by value.
+fn copy_acf(from: &[i32]) -> [i32; 9]
+    requires { ⌜ length (now from) ≡ 9 ⌝ }
+    ensures { λ r. ⌜ r ≡ now (from .entry) ⌝ }
+{
+    let mut acf = [0i32; 9];
+    for i in 0..9 {
+        acf[i] = from[i];
+    }
+    acf
+}
+
+// The four lent lags, by value.
+fn copy_lags(from: &[u16]) -> [u16; 4]
+    requires { ⌜ length (now from) ≡ 4 ⌝ }
+    ensures { λ r. ⌜ r ≡ now (from .entry) ⌝ }
+{
+    let mut lags = [0u16; 4];
+    for i in 0..4 {
+        lags[i] = from[i];
+    }
+    lags
+}
+
+// Puts nine numbers at the head of a line.
+fn put_acf(line: &mut [u8], acf: [i32; 9])
+    requires { ⌜ length (now line) ≡ 82 ⌝ }
+    ensures { λ r. ⌜ now (line .exit) ≡ hex.blocksOf 8 (map (ofZ w32) acf) ++ drop 72 (now (line .entry)) ⌝ }
+{
+    for i in 0..9 {
+        let x = pattern(acf[i]);
+        put(line, 8 * i, 8, x);
+    }
+}
+
+// Puts four lags before a line's last byte.
+fn put_lags(line: &mut [u8], lags: [u16; 4])
+    requires { ⌜ length (now line) ≡ 82 ⌝ }
+    ensures { λ r. ⌜ now (line .exit) ≡ take 73 (now (line .entry)) ++ hex.blocksOf 2 lags ++ drop (73 + 8) (now (line .entry)) ⌝ }
+{
+    for i in 0..4 {
+        let x = lags[i] as u32;
+        put(line, 73 + 2 * i, 2, x);
+    }
+}
+
+// Puts a frame's line.
+fn put_line(line: &mut [u8], acf: [i32; 9], scale: i16, lags: [u16; 4])
+    requires { ⌜ length (now line) ≡ 82 ⌝ }
+    ensures { λ r. ⌜ now (line .exit) ≡ frame.lineOf (record { acf = acf; scale = scale; lags = lags }) ⌝ }
+{
+    put_acf(line, acf);
+    let x = magnitude(scale as i32);
+    put(line, 72, 1, x);
+    put_lags(line, lags);
+    line[81] = 10;
+}
+
+// Writes a frame into a lent line, or gives the first of 1, 2, 3, 4 that refuses it and leaves the line as it was.
+pub fn write(acf: &[i32], lags: &[u16], scale: i16, line: &mut [u8]) -> u8
+    ensures { λ r. ⌜ r ≡ answer.writeOf (record { acf = now (acf .entry); scale = scale; lags = now (lags .entry) }) (now (line .entry)) ⌝ }
+    ensures { λ r. ⌜ now (line .exit) ≡ answer.lineAfter (record { acf = now (acf .entry); scale = scale; lags = now (lags .entry) }) (now (line .entry)) ⌝ }
+{
+    if acf.len() != 9 {
+        return 1;
+    }
+    if lags.len() != 4 {
+        return 1;
+    }
+    if line.len() != 82 {
+        return 1;
+    }
+    let a = copy_acf(acf);
+    let g = copy_lags(lags);
+    let n = frame_refusal(a, g, scale);
+    if n != 0 {
+        return n;
+    }
+    put_line(line, a, scale, g);
+    0
+}

@@ -1,0 +1,5 @@
+pub mod Said
+pub mod Run
+pub mod Fed
+pub mod Pieces
+pub mod Worked
