@@ -1,6 +1,8 @@
 // Clause 6.3: from the averaged autocorrelations of four frames before to the filter that whitens them.
 ghost use mathlib.Core.Path.{_≡_};
 ghost use Prim.Native.Nat.{_≤_};
+ghost use lib.IntN.{pos};
+ghost use Rattle.operations.specs.Operations as op;
 ghost use Rattle.rows.specs.Rows.{row};
 ghost use Rattle.predictor.specs.Schur as schur;
 ghost use Rattle.predictor.specs.StepUp as step;
@@ -106,14 +108,21 @@ fn recursion(order: usize, sacf: [i16; 9]) -> [i16; 9]
     v
 }
 
-// The averages in 16 bits: the left shift drops bits.
+// The top half of a number shifted to the left, which drops bits.
+fn topped(x: i32, n: i16) -> i16
+    ensures { λ r. ⌜ r ≡ op._>>_ (op._<<_ x n) (pos 16) ⌝ }
+{
+    l_shr(l_shl(x, n), 16) as i16
+}
+
+// The averages in 16 bits.
 fn sacf(av1: [i32; 9]) -> [i16; 9]
     ensures { λ r. ⌜ r ≡ row 9 (schur.sacfOf av1) ⌝ }
 {
     let temp = norm(av1[0]);
     let mut out = [0i16; 9];
     for k in 0..9 {
-        out[k] = l_shr(l_shl(av1[k], temp), 16) as i16;
+        out[k] = topped(av1[k], temp);
     }
     out
 }
@@ -130,33 +139,24 @@ pub fn vpar(av1: [i32; 9]) -> [i16; 9]
 
 // ---- 6.3.2
 
-// One entry of the coefficients, one order up.
-fn raised_at(coef: [i32; 9], v: i16, m: usize, i: usize) -> i32
-    requires { ⌜ (m ≤ 8) × (i ≤ 8) ⌝ }
-    ensures { λ r. ⌜ r ≡ step.raisedOf coef v m i ⌝ }
+// One coefficient below the order, from itself and the one that mirrors it, one order up.
+fn lifted(coef: i32, mirror: i32, v: i16) -> i32
+    ensures { λ r. ⌜ r ≡ op.L-add coef (op.L-mult v (op._>>_ mirror (pos 16))) ⌝ }
 {
-    if i == m {
-        return l_shl(v as i32, 14);
-    }
-    if i == 0 {
-        return coef[i];
-    }
-    if i > m {
-        return coef[i];
-    }
-    let temp = l_shr(coef[m - i], 16) as i16;
-    l_add(coef[i], l_mult(v, temp))
+    let temp = l_shr(mirror, 16) as i16;
+    l_add(coef, l_mult(v, temp))
 }
 
 // The coefficients, one order up.
 fn raised(coef: [i32; 9], v: i16, m: usize) -> [i32; 9]
-    requires { ⌜ m ≤ 8 ⌝ }
+    requires { ⌜ (1 ≤ m) × (m ≤ 8) ⌝ }
     ensures { λ r. ⌜ r ≡ row 9 (step.raisedOf coef v m) ⌝ }
 {
-    let mut out = [0i32; 9];
-    for i in 0..9 {
-        out[i] = raised_at(coef, v, m, i);
+    let mut out = coef;
+    for i in 1..m {
+        out[i] = lifted(coef[i], coef[m - i], v);
     }
+    out[m] = l_shl(v as i32, 14);
     out
 }
 
@@ -199,10 +199,12 @@ fn work(aav1: [i16; 9], i: usize) -> i32
 pub fn whitened(aav1: [i16; 9]) -> Filter
     ensures { λ r. ⌜ r ≡ filter.whitenedOf aav1 ⌝ }
 {
-    let normrav1 = norm(work(aav1, 0));
+    let first = work(aav1, 0);
+    let normrav1 = norm(first);
     let mut out = [0i16; 9];
-    for i in 0..9 {
-        out[i] = l_shr(l_shl(work(aav1, i), normrav1), 16) as i16;
+    out[0] = topped(first, normrav1);
+    for i in 1..9 {
+        out[i] = topped(work(aav1, i), normrav1);
     }
     Filter {
         rav1: out,

@@ -1,6 +1,6 @@
 -- Loops that make a row, for any kind of entry: one that fills it from the front, one that copies it, and one that stores a row inside
 -- another. Each has a law for a turn (`-more`) and one for the end (`-all`). Then the length and the entries of a row. Assumes nothing.
-use Prim.Native.Nat.{ℕ, zero, suc, _+_, _<_, _≤_}
+use Prim.Native.Nat.{ℕ, zero, suc, _+_, _-_, _<_, _≤_}
 use mathlib.Core.Path.{_≡_, refl, sym, ap, ap₂, subst, _∙_}
 use mathlib.Core.List.{List, [], _∷_, _++_}
 use native.Mathlib.Numerals.{add-one}
@@ -11,7 +11,7 @@ use borrow.Author.Tests.{ltb-true, ltb-false}
 use lib.IntN.{ℤ, pos}
 use lib.ListN.{length, getD, take, drop, set, length-append, List·getD-append, List·getD-eq-default}
 use Rattle.numbers.specs.Sum.{at}
-use lib.Seq.{take-suc, take-suc-set, take-all, paste, paste-suc, getD-append-add}
+use lib.Seq.{take-suc, take-suc-set, take-all, paste, paste-suc, getD-append-add, getD-drop}
 use Rattle.rows.specs.Rows.{row}
 use Rattle.rows.proofs.Choice.{either}
 
@@ -30,6 +30,18 @@ module _ {ℓ} {A : Type ℓ} where
 
   pub fill-all : (l : List A) (f : ℕ → A) (n i : ℕ) → length l ≡ n → i ≡ n → take i l ≡ row i f → l ≡ row n f
   fill-all l f n i h e p = sym (whole l n h) ∙ subst (λ (k : ℕ). take k l ≡ row k f) e p
+
+  -- ---- filled from the front up to i, and from there on the entries of s, which are f's
+  pub fill-rest : (l s : List A) (f : ℕ → A) (n i : ℕ) (z : A) → length l ≡ n → i ≤ n → take i l ≡ row i f → drop i l ≡ drop i s → ((k : ℕ) → i ≤ k → k < n → getD s k z ≡ f k) → l ≡ row n f
+  unfolding row
+  fill-rest l s f n i z h b p q e = fill-all l f n (i + (n - i)) h (omega arith) (upto (n - i) (omega arith))
+    where
+      upto : (j : ℕ) → i + j ≤ n → take (i + j) l ≡ row (i + j) f
+      upto zero k = let m : i ≡ i + zero = omega arith in subst (λ (t : ℕ). take t l ≡ row t f) m p
+      upto (suc j) k =
+          let m : suc (i + j) ≡ i + suc j = omega arith in
+          let x = sym (getD-drop i l j z) ∙ (ap (λ (d : List A). getD d j z) q ∙ (getD-drop i s j z ∙ e (i + j) (omega arith) (omega arith))) in
+          subst (λ (t : ℕ). take t l ≡ row t f) m (take-suc l (i + j) z (omega arith) ∙ ap₂ (λ (a : List A) (v : A). a ++ (v ∷ [])) (upto j (omega arith)) x)
 
   -- ---- copied, entry by entry
   pub copy-more : (l s : List A) (i : ℕ) (v z : A) → i < length l → i < length s → take i l ≡ take i s → v ≡ getD s i z → take (i + 1) (set l i v) ≡ take (i + 1) s

@@ -20,14 +20,17 @@ loop-holds : tie.Need-loop-holds Inv-loop μ-loop
 unfolding numberOf numberFrom
 loop-holds c = (omega arith, refl)
 
-add-value : tie.Need-add-value Inv-loop μ-loop
-add-value c = search needs
+add-worth : tie.Need-add-worth Inv-loop μ-loop
+add-worth c = search needs
 
-shared-slice-read-value : tie.Need-shared-slice-read-value Inv-loop μ-loop
-shared-slice-read-value c = search needs
+shared-slice-read-worth : tie.Need-shared-slice-read-worth Inv-loop μ-loop
+shared-slice-read-worth c = search needs
 
-value-requires : tie.Need-value-requires Inv-loop μ-loop
-value-requires c κs = search needs
+worth-requires : tie.Need-worth-requires Inv-loop μ-loop
+worth-requires c κs =
+    let t = c .before .before in
+    let a = t .before .before in
+    part-hex (a .args .line .now) (a .args .at) (a .args .k) (a .pre .1) (t .loop .i) (omega arith) (a .pre .2)
 
 mul-n : tie.Need-mul-n Inv-loop μ-loop
 mul-n c =
@@ -45,7 +48,7 @@ add-n c =
     let a = t .before .before in
     let b = part-room (a .args .line .now) (a .args .at) (a .args .k) (a .pre .1) (t .loop .i) (omega arith) (a .pre .0) (a .pre .2) in
     let v = part-hex (a .args .line .now) (a .args .at) (a .args .k) (a .pre .1) (t .loop .i) (omega arith) (a .pre .2) in
-    omega (arith, c .value .ensures)
+    omega (arith, c .worth .ensures)
 
 add-i : tie.Need-add-i Inv-loop μ-loop
 add-i c = search needs
@@ -58,7 +61,7 @@ loop-again c =
     let t = c .before .before .before in
     let a = t .before .before in
     let b = part-next (a .args .line .now) (a .args .at) (a .args .k) (a .pre .1) (t .loop .i) (omega arith) in
-    (omega arith, omega (arith, c .value .ensures))
+    (omega arith, omega (arith, c .worth .ensures))
 
 returns : tie.Need-returns Inv-loop μ-loop
 returns c =
@@ -76,9 +79,9 @@ number-spec =
     Inv-loop
     μ-loop
     loop-holds
-    add-value
-    shared-slice-read-value
-    value-requires
+    add-worth
+    shared-slice-read-worth
+    worth-requires
     mul-n
     cast-n
     add-n
