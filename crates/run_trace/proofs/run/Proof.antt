@@ -10,16 +10,22 @@ use Rattle.run_trace.proofs.run.Statement.{statement}
 use Rattle.run_trace.proofs.run.Tie as tie
 
 abbrev Inv-loop : tie.InvT-loop
-Inv-loop fd path r₀ turns₀ more₀ t10 r turns more = Unit {0}
+Inv-loop fd path piece₀ out₀ r₀ turns₀ more₀ written₀ t13 piece out r turns more written = (length piece ≡ 16384) × (length out ≡ 65536)
 
 abbrev μ-loop : tie.MeasureT-loop
-μ-loop fd path r₀ turns₀ more₀ t10 r turns more = turns
+μ-loop fd path piece₀ out₀ r₀ turns₀ more₀ written₀ t13 piece out r turns more written = turns
 
 start-requires : tie.Need-start-requires Inv-loop μ-loop
 start-requires c κs = search needs
 
 loop-holds : tie.Need-loop-holds Inv-loop μ-loop
-loop-holds c = search needs
+loop-holds c = (search needs, search needs)
+
+slice-aggregate-turn : tie.Need-slice-aggregate-turn Inv-loop μ-loop
+slice-aggregate-turn c = search needs
+
+slice-aggregate-turn-2 : tie.Need-slice-aggregate-turn-2 Inv-loop μ-loop
+slice-aggregate-turn-2 c = search needs
 
 turn-requires : tie.Need-turn-requires Inv-loop μ-loop
 turn-requires c κs = search needs
@@ -31,7 +37,10 @@ loop-less : tie.Need-loop-less Inv-loop μ-loop
 loop-less c = search needs
 
 loop-again : tie.Need-loop-again Inv-loop μ-loop
-loop-again c = search needs
+loop-again c = (search needs, search needs)
+
+returns : tie.Need-returns Inv-loop μ-loop
+returns c = search needs
 
 finish-requires : tie.Need-finish-requires Inv-loop μ-loop
 finish-requires c κs = search needs
@@ -58,11 +67,11 @@ slice-aggregate-fail c = search needs
 fail-requires : tie.Need-fail-requires Inv-loop μ-loop
 fail-requires c κs = search needs
 
-returns : tie.Need-returns Inv-loop μ-loop
-returns c = search needs
-
 returns-2 : tie.Need-returns-2 Inv-loop μ-loop
 returns-2 c = search needs
+
+returns-3 : tie.Need-returns-3 Inv-loop μ-loop
+returns-3 c = search needs
 
 pub run-spec : {M : Type 1} → statement M
 run-spec =
@@ -72,15 +81,18 @@ run-spec =
     μ-loop
     start-requires
     loop-holds
+    slice-aggregate-turn
+    slice-aggregate-turn-2
     turn-requires
     sub-turns
     loop-less
     loop-again
+    returns
     finish-requires
     array-share-prefix-text
     slice-aggregate-write-all
     write-all-requires
     slice-aggregate-fail
     fail-requires
-    returns
-    returns-2)
+    returns-2
+    returns-3)

@@ -9,50 +9,48 @@ use Rattle.runner.proofs.Steps.{wrote-fits}
 use Rattle.run_trace.proofs.turn.Statement.{statement}
 use Rattle.run_trace.proofs.turn.Tie as tie
 
-slice-aggregate-read : tie.Need-slice-aggregate-read
-slice-aggregate-read c = search needs
-
 read-requires : tie.Need-read-requires
 read-requires c κs = search needs
 
 fail-requires : tie.Need-fail-requires
 fail-requires c κs = search needs
 
+same-length : tie.Need-same-length
+same-length c = search needs
+
 returns : tie.Need-returns
 returns c = search needs
+
+same-length-2 : tie.Need-same-length-2
+same-length-2 c = search needs
 
 returns-2 : tie.Need-returns-2
 returns-2 c = search needs
 
-slice-aggregate-count : tie.Need-slice-aggregate-count
-slice-aggregate-count c = search needs
-
 count-requires : tie.Need-count-requires
 count-requires c κs = search needs
 
-array-share-prefix-piece : tie.Need-array-share-prefix-piece
-array-share-prefix-piece c = search needs
+slice-reshare-prefix-feed : tie.Need-slice-reshare-prefix-feed
+slice-reshare-prefix-feed c = search needs
 
 slice-aggregate-feed : tie.Need-slice-aggregate-feed
 slice-aggregate-feed c = search needs
 
-slice-aggregate-feed-2 : tie.Need-slice-aggregate-feed-2
-slice-aggregate-feed-2 c = search needs
-
 feed-requires : tie.Need-feed-requires
 feed-requires c κs = search needs
 
-fits : (c : tie.After-out2) → c .before .feed .result .wrote ≤ length (c .before .feed .last .1 .1 .0)
+fits : (c : tie.After-next) → c .before .before .before .feed .result .wrote ≤ length (c .before .before .before .feed .last .1 .1 .0)
 fits c =
-    let n : length (c .before .feed .last .1 .1 .0) ≡ 65536 = search needs in
-    subst (λ (m : ℕ). c .before .feed .result .wrote ≤ m) (sym n)
-    (subst (λ (m : ℕ). m ≤ 65536) (sym (ap (λ (f : Fed). f .wrote) (c .before .feed .ensures .0))) (wrote-fits _ _ 65536))
+    let f = c .before .before .before .feed in
+    let start = c .before .before .before .before .before .before .before .before .before .before .before .before .before .before .before .before .before in
+    let n : length (f .last .1 .1 .0) ≡ length (start .args .out .now) = search needs in
+    subst (λ (m : ℕ). f .result .wrote ≤ m) (sym n) (subst (λ (m : ℕ). m ≤ length (start .args .out .now)) (sym (ap (λ (x : Fed). x .wrote) (f .ensures .0))) (wrote-fits _ _ (length (start .args .out .now))))
 
-array-share-prefix-out : tie.Need-array-share-prefix-out
-array-share-prefix-out c = fits (c .before)
+slice-reshare-prefix-write-all : tie.Need-slice-reshare-prefix-write-all
+slice-reshare-prefix-write-all c = fits c
 
 slice-aggregate-write-all : tie.Need-slice-aggregate-write-all
-slice-aggregate-write-all c = sym (length-take-le _ _ (fits (c .before .before)))
+slice-aggregate-write-all c = sym (length-take-le _ _ (fits (c .before)))
 
 write-all-requires : tie.Need-write-all-requires
 write-all-requires c κs = search needs
@@ -63,8 +61,20 @@ slice-aggregate-fail c = search needs
 fail-requires-2 : tie.Need-fail-requires-2
 fail-requires-2 c κs = search needs
 
+same-length-3 : tie.Need-same-length-3
+same-length-3 c = search needs
+
+same-length-4 : tie.Need-same-length-4
+same-length-4 c = search needs
+
 returns-3 : tie.Need-returns-3
 returns-3 c = search needs
+
+same-length-5 : tie.Need-same-length-5
+same-length-5 c = search needs
+
+same-length-6 : tie.Need-same-length-6
+same-length-6 c = search needs
 
 returns-4 : tie.Need-returns-4
 returns-4 c = search needs
@@ -73,21 +83,24 @@ pub turn-spec : {M : Type 1} → statement M
 turn-spec =
     tie.close
     (tie.spec
-    slice-aggregate-read
     read-requires
     fail-requires
+    same-length
     returns
+    same-length-2
     returns-2
-    slice-aggregate-count
     count-requires
-    array-share-prefix-piece
+    slice-reshare-prefix-feed
     slice-aggregate-feed
-    slice-aggregate-feed-2
     feed-requires
-    array-share-prefix-out
+    slice-reshare-prefix-write-all
     slice-aggregate-write-all
     write-all-requires
     slice-aggregate-fail
     fail-requires-2
+    same-length-3
+    same-length-4
     returns-3
+    same-length-5
+    same-length-6
     returns-4)
