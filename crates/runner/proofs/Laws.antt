@@ -25,6 +25,43 @@ unfolding pushAll
 push-append g [] m = refl
 push-append g (b ∷ l) m = push-append (pushOf g b) l m
 
+-- ---- a whole line, and a rest with no line feed
+unfoldable pub gathered : Going → List ℕ → Going
+gathered g l = record { state = g .state; seen = g .seen ++ l; text = g .text }
+
+end-gather : (g : Going) (b : ℕ) (t : List ℕ) → endWith (gather g b) t ≡ endWith g (b ∷ t)
+unfolding endWith gather
+end-gather g b t = rw (append-snoc (g .seen) b t)
+
+pub push-line : (g : Going) (l : List ℕ) → plainOf l < length l → pushAll g l ≡ pushAll (endWith g (take (plainOf l + 1) l)) (drop (plainOf l + 1) l)
+unfolding pushAll plainOf pushOf IF_THEN_ELSE_
+push-line g [] h = absurd (omega arith)
+push-line g (b ∷ l) h = go (push-line (gather g b) l) (eqb b 10) refl
+  where
+    go : (plainOf l < length l → pushAll (gather g b) l ≡ pushAll (endWith (gather g b) (take (plainOf l + 1) l)) (drop (plainOf l + 1) l)) → (x : Bool) → eqb b 10 ≡ x → pushAll g (b ∷ l) ≡ pushAll (endWith g (take (plainOf (b ∷ l) + 1) (b ∷ l))) (drop (plainOf (b ∷ l) + 1) (b ∷ l))
+    go ih true e = rw e
+    go ih false e =
+        let k = rw e at h in
+        let p : plainOf l < length l = omega arith in
+        let q : suc (plainOf l) + 1 ≡ suc (plainOf l + 1) = omega arith in
+        rw (e, q) (ih p ∙ ap (λ (x : Going). pushAll x (drop (plainOf l + 1) l)) (end-gather g b (take (plainOf l + 1) l)))
+
+gathered-more : (g : Going) (b : ℕ) (l : List ℕ) → gathered (gather g b) l ≡ gathered g (b ∷ l)
+unfolding gathered gather
+gathered-more g b l = rw (append-snoc (g .seen) b l)
+
+pub push-rest : (g : Going) (l : List ℕ) → plainOf l ≡ length l → pushAll g l ≡ gathered g l
+unfolding pushAll plainOf pushOf IF_THEN_ELSE_ gathered gather
+push-rest g [] h = rw append-nil
+push-rest g (b ∷ l) h = go (push-rest (gather g b) l) (eqb b 10) refl
+  where
+    go : (plainOf l ≡ length l → pushAll (gather g b) l ≡ gathered (gather g b) l) → (x : Bool) → eqb b 10 ≡ x → pushAll g (b ∷ l) ≡ gathered g (b ∷ l)
+    go ih true e = absurd (let k = rw e at h in omega arith)
+    go ih false e =
+        let k = rw e at h in
+        let p : plainOf l ≡ length l = omega arith in
+        rw e (ih p ∙ gathered-more g b l)
+
 -- ---- what was written before
 unfoldable pub after : List ℕ → Going → Going
 after t g = record { state = g .state; seen = g .seen; text = t ++ g .text }
@@ -88,43 +125,6 @@ unfolding pushAll
 cap-all g [] = cap-twice g
 cap-all g (b ∷ l) =
     sym (cap-all (pushOf (capOf g) b) l) ∙ (ap (λ (h : Going). capOf (pushAll h l)) (cap-push g b) ∙ cap-all (pushOf g b) l)
-
--- ---- a whole line, and a rest with no line feed
-unfoldable pub gathered : Going → List ℕ → Going
-gathered g l = record { state = g .state; seen = g .seen ++ l; text = g .text }
-
-end-gather : (g : Going) (b : ℕ) (t : List ℕ) → endWith (gather g b) t ≡ endWith g (b ∷ t)
-unfolding endWith gather
-end-gather g b t = rw (append-snoc (g .seen) b t)
-
-pub push-line : (g : Going) (l : List ℕ) → plainOf l < length l → pushAll g l ≡ pushAll (endWith g (take (plainOf l + 1) l)) (drop (plainOf l + 1) l)
-unfolding pushAll plainOf pushOf IF_THEN_ELSE_
-push-line g [] h = absurd (omega arith)
-push-line g (b ∷ l) h = go (push-line (gather g b) l) (eqb b 10) refl
-  where
-    go : (plainOf l < length l → pushAll (gather g b) l ≡ pushAll (endWith (gather g b) (take (plainOf l + 1) l)) (drop (plainOf l + 1) l)) → (x : Bool) → eqb b 10 ≡ x → pushAll g (b ∷ l) ≡ pushAll (endWith g (take (plainOf (b ∷ l) + 1) (b ∷ l))) (drop (plainOf (b ∷ l) + 1) (b ∷ l))
-    go ih true e = rw e
-    go ih false e =
-        let k = rw e at h in
-        let p : plainOf l < length l = omega arith in
-        let q : suc (plainOf l) + 1 ≡ suc (plainOf l + 1) = omega arith in
-        rw (e, q) (ih p ∙ ap (λ (x : Going). pushAll x (drop (plainOf l + 1) l)) (end-gather g b (take (plainOf l + 1) l)))
-
-gathered-more : (g : Going) (b : ℕ) (l : List ℕ) → gathered (gather g b) l ≡ gathered g (b ∷ l)
-unfolding gathered gather
-gathered-more g b l = rw (append-snoc (g .seen) b l)
-
-pub push-rest : (g : Going) (l : List ℕ) → plainOf l ≡ length l → pushAll g l ≡ gathered g l
-unfolding pushAll plainOf pushOf IF_THEN_ELSE_ gathered gather
-push-rest g [] h = rw append-nil
-push-rest g (b ∷ l) h = go (push-rest (gather g b) l) (eqb b 10) refl
-  where
-    go : (plainOf l ≡ length l → pushAll (gather g b) l ≡ gathered (gather g b) l) → (x : Bool) → eqb b 10 ≡ x → pushAll g (b ∷ l) ≡ gathered g (b ∷ l)
-    go ih true e = absurd (let k = rw e at h in omega arith)
-    go ih false e =
-        let k = rw e at h in
-        let p : plainOf l ≡ length l = omega arith in
-        rw e (ih p ∙ gathered-more g b l)
 
 -- ---- the theorem: however the input is cut, the output is that of the whole
 last-cap : (l : List ℕ) → lastOf (take 82 l) ≡ lastOf l
