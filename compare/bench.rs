@@ -1,0 +1,165 @@
+//! Measures the programs and the steps beside each other, for compare/bench, which says what is printed.
+//!
+//!     bench grow RUN_TRACE SECOND ROUNDS FILE..   a line for each file: frames, best seconds of each program, peak kB of each
+//!     bench first FILE STEPS                      STEPS steps through the static library over the frames of FILE, again and again
+//!     bench second FILE STEPS                     the same steps of the second implementation
+//!     bench steps FILE STEPS ROUNDS               both in turn: best seconds of each
+#[allow(dead_code)]
+#[path = "second.rs"]
+mod second;
+
+use second::{Memory, LINE};
+use std::fs::File;
+use std::io::{Read, Write};
+use std::process::{exit, Command, Stdio};
+use std::time::Instant;
+
+extern "C" {
+    fn lindenflax_reset(state: *mut i32, state_len: usize) -> u8;
+    fn lindenflax_step(
+        acf: *const i32, acf_len: usize, lags: *const u16, lags_len: usize, scale: i16,
+        state: *mut i32, state_len: usize, answer: *mut i32, answer_len: usize,
+    ) -> u8;
+    fn wait4(pid: i32, status: *mut i32, options: i32, usage: *mut [i64; 18]) -> i32;
+}
+
+fn fail(what: &str) -> ! {
+    eprintln!("bench: {what}");
+    exit(1)
+}
+
+/// A frame in the form of each of the two steps.
+struct Frame {
+    acf: [i32; 9],
+    lags: [u16; 4],
+    scale: i16,
+    wide: (Vec<i64>, Vec<i64>, i64),
+}
+
+fn frames(path: &str) -> Vec<Frame> {
+    let trace = std::fs::read(path).unwrap_or_else(|e| fail(&format!("{path}: {e}")));
+    let mut out = Vec::new();
+    for line in trace.chunks(LINE) {
+        let wide = second::decode(line).unwrap_or_else(|n| fail(&format!("{path}: a line is refused: {n}")));
+        let mut f = Frame { acf: [0; 9], lags: [0; 4], scale: wide.2 as i16, wide };
+        for i in 0..9 {
+            f.acf[i] = f.wide.0[i] as i32;
+        }
+        for i in 0..4 {
+            f.lags[i] = f.wide.1[i] as u16;
+        }
+        out.push(f);
+    }
+    out
+}
+
+/// How many of the steps from reset said speech.
+fn first(frames: &[Frame], steps: usize) -> usize {
+    let (mut state, mut answer, mut speech) = ([0i32; 84], [0i32; 6], 0);
+    unsafe { lindenflax_reset(state.as_mut_ptr(), 84) };
+    for f in frames.iter().cycle().take(steps) {
+        let n = unsafe { lindenflax_step(f.acf.as_ptr(), 9, f.lags.as_ptr(), 4, f.scale, state.as_mut_ptr(), 84, answer.as_mut_ptr(), 6) };
+        if n != 0 {
+            fail(&format!("a step is refused: {n}"));
+        }
+        speech += answer[0] as usize;
+    }
+    speech
+}
+
+fn other(frames: &[Frame], steps: usize) -> usize {
+    let (mut memory, mut speech) = (Memory::reset(), 0);
+    for f in frames.iter().cycle().take(steps) {
+        let r = second::step(&f.wide.0, &f.wide.1, f.wide.2, &memory);
+        if r.refusal != 0 {
+            fail(&format!("a step is refused: {}", r.refusal));
+        }
+        speech += r.vad as usize;
+        memory = r.next;
+    }
+    speech
+}
+
+fn timed(f: impl FnOnce() -> usize) -> (f64, usize) {
+    let start = Instant::now();
+    let speech = f();
+    (start.elapsed().as_secs_f64(), speech)
+}
+
+/// Runs a program on a file, its answers to nowhere: seconds, and peak kB as the system tells at its end.
+fn run(program: &str, path: &str) -> (f64, i64) {
+    let start = Instant::now();
+    let child = Command::new(program).arg(path).stdout(Stdio::null()).spawn().unwrap_or_else(|e| fail(&format!("{program}: {e}")));
+    let (mut status, mut usage) = (0, [0i64; 18]);
+    if unsafe { wait4(child.id() as i32, &mut status, 0, &mut usage) } < 0 || status != 0 {
+        fail(&format!("{program} {path}: status {status}"));
+    }
+    (start.elapsed().as_secs_f64(), usage[4])
+}
+
+/// The peak kB of a program that answers line by line, asked when it has answered the last line and before it ends.
+fn peak(program: &str, path: &str) -> i64 {
+    let mut child = Command::new(program).stdin(Stdio::piped()).stdout(Stdio::piped()).spawn().unwrap_or_else(|e| fail(&format!("{program}: {e}")));
+    let mut to = child.stdin.take().unwrap();
+    let mut from = child.stdout.take().unwrap();
+    let bytes = std::fs::metadata(path).unwrap_or_else(|e| fail(&format!("{path}: {e}"))).len();
+    let name = path.to_string();
+    let writer = std::thread::spawn(move || {
+        let mut file = File::open(name)?;
+        let mut piece = [0u8; 65536];
+        loop {
+            match file.read(&mut piece)? {
+                0 => return Ok::<_, std::io::Error>(to),
+                n => to.write_all(&piece[..n])?,
+            }
+        }
+    });
+    let (mut left, mut piece) = (bytes / LINE as u64 * 4, [0u8; 65536]);
+    while left > 0 {
+        match from.read(&mut piece) {
+            Ok(n) if n > 0 => left -= n as u64,
+            _ => fail(&format!("{program} {path}: too few answers")),
+        }
+    }
+    let status = std::fs::read_to_string(format!("/proc/{}/status", child.id())).unwrap_or_default();
+    drop(writer.join());
+    child.wait().unwrap_or_else(|e| fail(&format!("{program}: {e}")));
+    let line = status.lines().find(|l| l.starts_with("VmHWM:")).unwrap_or("");
+    line.split_whitespace().nth(1).and_then(|n| n.parse().ok()).unwrap_or_else(|| fail("no peak memory in /proc"))
+}
+
+fn main() {
+    let args: Vec<String> = std::env::args().skip(1).collect();
+    let word = |i: usize| args.get(i).map(|s| s.as_str()).unwrap_or_else(|| fail("a word is missing"));
+    let count = |i: usize| word(i).parse::<usize>().unwrap_or_else(|_| fail("a number is missing"));
+    match word(0) {
+        "grow" => {
+            for path in &args[4..] {
+                let frames = std::fs::metadata(path).unwrap_or_else(|e| fail(&format!("{path}: {e}"))).len() / LINE as u64;
+                let (mut a, mut b) = ((f64::MAX, 0), (f64::MAX, 0));
+                for _ in 0..count(3) {
+                    let (x, y) = (run(word(1), path), run(word(2), path));
+                    a = (a.0.min(x.0), a.1.max(x.1));
+                    b = (b.0.min(y.0), b.1.max(y.1));
+                }
+                println!("{frames} {:.6} {:.6} {} {}", a.0, b.0, peak(word(1), path), b.1);
+            }
+        }
+        "first" => println!("{}", first(&frames(word(1)), count(2))),
+        "second" => println!("{}", other(&frames(word(1)), count(2))),
+        "steps" => {
+            let f = frames(word(1));
+            let (mut a, mut b) = (f64::MAX, f64::MAX);
+            for _ in 0..count(3) {
+                let (x, y) = (timed(|| first(&f, count(2))), timed(|| other(&f, count(2))));
+                if x.1 != y.1 {
+                    fail(&format!("the two differ: {} and {} frames of speech", x.1, y.1));
+                }
+                a = a.min(x.0);
+                b = b.min(y.0);
+            }
+            println!("{a:.6} {b:.6}");
+        }
+        _ => fail("grow, first, second or steps"),
+    }
+}
