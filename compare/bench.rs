@@ -1,9 +1,9 @@
 //! Measures the programs and the steps beside each other, for compare/bench, which says what is printed.
 //!
-//!     bench grow RUN_TRACE SECOND ROUNDS FILE..   a line for each file: frames, best seconds of each program, peak kB of each
+//!     bench grow RUN_TRACE SECOND ROUNDS FILE..   a line for each file: frames, best seconds of each program, best of its processor's, peak kB
 //!     bench first FILE STEPS                      STEPS steps through the static library over the frames of FILE, again and again
 //!     bench second FILE STEPS                     the same steps of the second implementation
-//!     bench steps FILE STEPS ROUNDS               both in turn: best seconds of each
+//!     bench steps FILE STEPS ROUNDS               both in turn: best seconds of each, best of the processor's
 #[allow(dead_code)]
 #[path = "second.rs"]
 mod second;
@@ -20,6 +20,7 @@ extern "C" {
         acf: *const i32, acf_len: usize, lags: *const u16, lags_len: usize, scale: i16,
         state: *mut i32, state_len: usize, answer: *mut i32, answer_len: usize,
     ) -> u8;
+    fn getrusage(who: i32, usage: *mut [i64; 18]) -> i32;
     fn wait4(pid: i32, status: *mut i32, options: i32, usage: *mut [i64; 18]) -> i32;
 }
 
@@ -80,21 +81,33 @@ fn other(frames: &[Frame], steps: usize) -> usize {
     speech
 }
 
-fn timed(f: impl FnOnce() -> usize) -> (f64, usize) {
-    let start = Instant::now();
-    let speech = f();
-    (start.elapsed().as_secs_f64(), speech)
+/// The processor's seconds, for the program and for the system.
+fn processor(usage: &[i64; 18]) -> f64 {
+    (usage[0] + usage[2]) as f64 + (usage[1] + usage[3]) as f64 / 1e6
 }
 
-/// Runs a program on a file, its answers to nowhere: seconds, and peak kB as the system tells at its end.
-fn run(program: &str, path: &str) -> (f64, i64) {
+fn own() -> f64 {
+    let mut usage = [0i64; 18];
+    unsafe { getrusage(0, &mut usage) };
+    processor(&usage)
+}
+
+/// Seconds, the processor's seconds, and what came out.
+fn timed(f: impl FnOnce() -> usize) -> (f64, f64, usize) {
+    let (start, before) = (Instant::now(), own());
+    let speech = f();
+    (start.elapsed().as_secs_f64(), own() - before, speech)
+}
+
+/// Runs a program on a file, its answers to nowhere: seconds, the processor's seconds, and peak kB as the system tells at its end.
+fn run(program: &str, path: &str) -> (f64, f64, i64) {
     let start = Instant::now();
     let child = Command::new(program).arg(path).stdout(Stdio::null()).spawn().unwrap_or_else(|e| fail(&format!("{program}: {e}")));
     let (mut status, mut usage) = (0, [0i64; 18]);
     if unsafe { wait4(child.id() as i32, &mut status, 0, &mut usage) } < 0 || status != 0 {
         fail(&format!("{program} {path}: status {status}"));
     }
-    (start.elapsed().as_secs_f64(), usage[4])
+    (start.elapsed().as_secs_f64(), processor(&usage), usage[4])
 }
 
 /// The peak kB of a program that answers line by line, asked when it has answered the last line and before it ends.
@@ -136,29 +149,29 @@ fn main() {
         "grow" => {
             for path in &args[4..] {
                 let frames = std::fs::metadata(path).unwrap_or_else(|e| fail(&format!("{path}: {e}"))).len() / LINE as u64;
-                let (mut a, mut b) = ((f64::MAX, 0), (f64::MAX, 0));
+                let (mut a, mut b) = ((f64::MAX, f64::MAX), (f64::MAX, f64::MAX, 0));
                 for _ in 0..count(3) {
                     let (x, y) = (run(word(1), path), run(word(2), path));
-                    a = (a.0.min(x.0), a.1.max(x.1));
-                    b = (b.0.min(y.0), b.1.max(y.1));
+                    a = (a.0.min(x.0), a.1.min(x.1));
+                    b = (b.0.min(y.0), b.1.min(y.1), b.2.max(y.2));
                 }
-                println!("{frames} {:.6} {:.6} {} {}", a.0, b.0, peak(word(1), path), b.1);
+                println!("{frames} {:.6} {:.6} {:.6} {:.6} {} {}", a.0, b.0, a.1, b.1, peak(word(1), path), b.2);
             }
         }
         "first" => println!("{}", first(&frames(word(1)), count(2))),
         "second" => println!("{}", other(&frames(word(1)), count(2))),
         "steps" => {
             let f = frames(word(1));
-            let (mut a, mut b) = (f64::MAX, f64::MAX);
+            let (mut a, mut b) = ((f64::MAX, f64::MAX), (f64::MAX, f64::MAX));
             for _ in 0..count(3) {
                 let (x, y) = (timed(|| first(&f, count(2))), timed(|| other(&f, count(2))));
-                if x.1 != y.1 {
-                    fail(&format!("the two differ: {} and {} frames of speech", x.1, y.1));
+                if x.2 != y.2 {
+                    fail(&format!("the two differ: {} and {} frames of speech", x.2, y.2));
                 }
-                a = a.min(x.0);
-                b = b.min(y.0);
+                a = (a.0.min(x.0), a.1.min(x.1));
+                b = (b.0.min(y.0), b.1.min(y.1));
             }
-            println!("{a:.6} {b:.6}");
+            println!("{:.6} {:.6} {:.6} {:.6}", a.0, b.0, a.1, b.1);
         }
         _ => fail("grow, first, second or steps"),
     }
