@@ -3,3 +3,5 @@ pub mod Lossless
 pub mod Pointed
 pub mod Answers
 pub mod Rounds
+pub mod Lines
+pub mod LineTrip

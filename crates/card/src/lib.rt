@@ -1,11 +1,14 @@
-// The detector's interface for C and Rust: a state and an answer as lent runs of numbers of 32 bits.
+// The detector's interface for C and Rust: a state and an answer as lent runs of numbers of 32 bits, and trace lines read and written.
 ghost use mathlib.Core.Path.{_≡_};
 ghost use mathlib.Core.Bool.{true};
 ghost use Prim.Native.Nat.{_+_, _≤_};
 ghost use lib.ListN.{length};
 ghost use Rattle.card.specs.Run as card;
+ghost use Rattle.card.specs.Lines as trace;
 use detector::Answer;
 use detector::step;
+use lines::read;
+use lines::write;
 use pairs::Pair;
 use state::State;
 use state::within;
@@ -269,4 +272,44 @@ pub extern "C" fn lindenflax_step(
     put(state, packed(next));
     put_answer(answer, a.vad, a.vvad, acf0, pvad);
     0
+}
+
+// A trace line read: nine autocorrelations, four lags and a run of one for the scale, or the first of 1, 6, 2, 3, 4 that refuses it.
+#[no_mangle]
+pub extern "C" fn lindenflax_read_line(
+    line: &[u8],
+    acf: &mut [i32],
+    lags: &mut [u16],
+    scale: &mut [i16],
+) -> u8
+    ensures { λ r. ⌜ r ≡ trace.readNumber (now (line .entry)) (now (acf .entry)) (now (lags .entry)) (now (scale .entry)) ⌝ }
+    ensures { λ _. ⌜ now (acf .exit) ≡ trace.readAcf (now (line .entry)) (now (acf .entry)) (now (lags .entry)) (now (scale .entry)) ⌝ }
+    ensures { λ _. ⌜ now (lags .exit) ≡ trace.readLags (now (line .entry)) (now (acf .entry)) (now (lags .entry)) (now (scale .entry)) ⌝ }
+    ensures { λ _. ⌜ now (scale .exit) ≡ trace.readScale (now (line .entry)) (now (acf .entry)) (now (lags .entry)) (now (scale .entry)) ⌝ }
+{
+    if scale.len() != 1 {
+        return 1;
+    }
+    let h = read(line, acf, lags);
+    let number = h.refusal;
+    if number != 0 {
+        return number;
+    }
+    let s = h.scale;
+    scale[0] = s;
+    0
+}
+
+// A frame written into a lent line of 82 bytes, or the first of 1, 2, 3, 4 that refuses it.
+#[no_mangle]
+pub extern "C" fn lindenflax_write_line(
+    acf: &[i32],
+    lags: &[u16],
+    scale: i16,
+    line: &mut [u8],
+) -> u8
+    ensures { λ r. ⌜ r ≡ trace.writeNumber (now (acf .entry)) (now (lags .entry)) scale (now (line .entry)) ⌝ }
+    ensures { λ _. ⌜ now (line .exit) ≡ trace.writeLine (now (acf .entry)) (now (lags .entry)) scale (now (line .entry)) ⌝ }
+{
+    write(acf, lags, scale, line)
 }
