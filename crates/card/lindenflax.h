@@ -1,4 +1,4 @@
-/* The voice activity detector of GSM 06.32 (uplink), one frame at a time. */
+/* The voice activity detector of GSM 06.32 (uplink), one frame at a time, and the lines of a trace. */
 #ifndef LINDENFLAX_H
 #define LINDENFLAX_H
 
@@ -14,6 +14,8 @@ extern "C" {
 #define LINDENFLAX_LAGS 4
 #define LINDENFLAX_STATE 84
 #define LINDENFLAX_ANSWER 6
+#define LINDENFLAX_SCALE 1
+#define LINDENFLAX_LINE 82
 
 /*
  * The state, 84 numbers. A frame is refused (5) where a number does not fit its field, or the state is not valid.
@@ -49,13 +51,23 @@ extern "C" {
  *   5  m_pvad
  */
 
-/* What both functions return. A number other than 0 leaves every buffer as it was. */
+/*
+ * A line of a trace, 82 bytes: 81 digits out of 0..9 and A..F, and a line feed.
+ *
+ *    0..71  nine autocorrelations, eight digits each, in two's complement
+ *   72      the scale
+ *   73..80  four lags, two digits each
+ *   81      a line feed
+ */
+
+/* What each function returns. A number other than 0 leaves every buffer as it was. */
 #define LINDENFLAX_OK 0          /* done */
 #define LINDENFLAX_BAD_LENGTH 1  /* a buffer has the wrong length */
 #define LINDENFLAX_BAD_SCALE 2   /* scale is outside 0..4 */
 #define LINDENFLAX_BAD_ACF 3     /* acf[0] is negative, or another number is larger in magnitude */
 #define LINDENFLAX_BAD_LAG 4     /* a lag is outside 40..120 */
 #define LINDENFLAX_BAD_STATE 5   /* the state is not valid */
+#define LINDENFLAX_BAD_LINE 6    /* a line is not 81 digits and a line feed */
 
 /* Writes the state after a reset: 0, or 1 where state_len is not 84. */
 uint8_t lindenflax_reset(int32_t *state, size_t state_len);
@@ -66,6 +78,20 @@ uint8_t lindenflax_reset(int32_t *state, size_t state_len);
  */
 uint8_t lindenflax_step(const int32_t *acf, size_t acf_len, const uint16_t *lags, size_t lags_len, int16_t scale, int32_t *state,
                         size_t state_len, int32_t *answer, size_t answer_len);
+
+/*
+ * Reads a line: writes its nine autocorrelations, its four lags, and its scale into a buffer of one number. The checks are made in the order
+ * 1, 6, 2, 3, 4; a line of another length than 82 is refused with 6. The buffers must not overlap.
+ */
+uint8_t lindenflax_read_line(const uint8_t *line, size_t line_len, int32_t *acf, size_t acf_len, uint16_t *lags, size_t lags_len,
+                             int16_t *scale, size_t scale_len);
+
+/*
+ * Writes the line of a frame, 82 bytes with the line feed and no zero after it. The checks are made in the order 1, 2, 3, 4. What is written
+ * reads back as the same frame. The buffers must not overlap.
+ */
+uint8_t lindenflax_write_line(const int32_t *acf, size_t acf_len, const uint16_t *lags, size_t lags_len, int16_t scale, uint8_t *line,
+                              size_t line_len);
 
 #ifdef __cplusplus
 }
