@@ -17,6 +17,13 @@ extern "C" {
         acf: *const i32, acf_len: usize, lags: *const u16, lags_len: usize, scale: i16,
         state: *mut i32, state_len: usize, answer: *mut i32, answer_len: usize,
     ) -> u8;
+    fn lindenflax_read_line(
+        line: *const u8, line_len: usize, acf: *mut i32, acf_len: usize, lags: *mut u16, lags_len: usize,
+        scale: *mut i16, scale_len: usize,
+    ) -> u8;
+    fn lindenflax_write_line(
+        acf: *const i32, acf_len: usize, lags: *const u16, lags_len: usize, scale: i16, line: *mut u8, line_len: usize,
+    ) -> u8;
 }
 
 const STATE: usize = 84;
@@ -64,6 +71,27 @@ fn run_of(m: &Memory) -> Vec<i32> {
         m.pt_sav0, m.lastdm, m.e_thvad, m.m_thvad, m.adaptcount, m.burstcount, m.hangcount, m.oldlagcount, m.veryoldlagcount, m.oldlag,
     ]);
     r.iter().map(|x| *x as i32).collect()
+}
+
+fn memory_of(run: &[i32]) -> Memory {
+    let r: Vec<i64> = run.iter().map(|x| *x as i64).collect();
+    Memory {
+        rvad: r[0..9].try_into().unwrap(),
+        normrvad: r[9],
+        l_sacf: r[10..37].try_into().unwrap(),
+        pt_sacf: r[37],
+        l_sav0: r[38..74].try_into().unwrap(),
+        pt_sav0: r[74],
+        lastdm: r[75],
+        e_thvad: r[76],
+        m_thvad: r[77],
+        adaptcount: r[78],
+        burstcount: r[79],
+        hangcount: r[80],
+        oldlagcount: r[81],
+        veryoldlagcount: r[82],
+        oldlag: r[83],
+    }
 }
 
 /// A valid state, with each part at the ends of its range now and then.
@@ -163,32 +191,199 @@ fn write_line(acf: &[i64], lags: &[i64], scale: i64) -> Vec<u8> {
     text.into_bytes()
 }
 
+/// A line of a frame, now and then damaged.
+fn any_line(r: &mut Random) -> Vec<u8> {
+    let (acf, lags, scale) = any_frame(r);
+    let mut line = write_line(&acf, &lags, scale);
+    if r.one_in(12) {
+        let at = r.from(0, 80) as usize;
+        match r.next() % 8 {
+            0 => line[at] = b'a' + (r.next() % 6) as u8,
+            1 => line[at] = r.next() as u8,
+            2 => drop(line.remove(at)),
+            3 => line.insert(at, b'0'),
+            4 => line.insert(81, b'\r'),
+            5 => line = b"\n".to_vec(),
+            6 => line.splice(at..at, vec![b'F'; r.from(1, 300) as usize]).for_each(drop),
+            _ => line[at] = b'\n',
+        }
+    }
+    line
+}
+
 /// A trace of lines, some of them damaged.
 fn any_trace(r: &mut Random, lines: usize) -> Vec<u8> {
     let mut out = Vec::new();
     for _ in 0..lines {
-        let (acf, lags, scale) = any_frame(r);
-        let mut line = write_line(&acf, &lags, scale);
-        if r.one_in(12) {
-            let at = r.from(0, 80) as usize;
-            match r.next() % 8 {
-                0 => line[at] = b'a' + (r.next() % 6) as u8,
-                1 => line[at] = r.next() as u8,
-                2 => drop(line.remove(at)),
-                3 => line.insert(at, b'0'),
-                4 => line.insert(81, b'\r'),
-                5 => line = b"\n".to_vec(),
-                6 => line.splice(at..at, vec![b'F'; r.from(1, 300) as usize]).for_each(drop),
-                _ => line[at] = b'\n',
-            }
-        }
-        out.extend(line);
+        out.extend(any_line(r));
     }
     if r.one_in(2) {
         let cut = r.from(1, LINE as i64) as usize;
         out.truncate(out.len().saturating_sub(cut));
     }
     out
+}
+
+/// A line read through the static library into buffers of these lengths, each with one number more behind it, held to the second program's.
+fn compare_read(line: &[u8], (n, k, one): (usize, usize, usize)) -> i64 {
+    let (mut acf, mut lags, mut scale) = (vec![-7i32; n + 1], vec![7u16; k + 1], vec![-7i16; one + 1]);
+    let number = unsafe {
+        lindenflax_read_line(line.as_ptr(), line.len(), acf.as_mut_ptr(), n, lags.as_mut_ptr(), k, scale.as_mut_ptr(), one)
+    };
+    let (mut right_acf, mut right_lags, mut right_scale) = (vec![-7i64; n + 1], vec![7i64; k + 1], vec![-7i64; one + 1]);
+    let right = if (n, k, one) == (9, 4, 1) { second::decode(line) } else { Err(1) };
+    let refusal = match right {
+        Ok((a, l, s)) => {
+            right_acf[..9].copy_from_slice(&a);
+            right_lags[..4].copy_from_slice(&l);
+            right_scale[0] = s;
+            0
+        }
+        Err(number) => number,
+    };
+    let same = number as i64 == refusal
+        && acf.iter().map(|x| *x as i64).eq(right_acf)
+        && lags.iter().map(|x| *x as i64).eq(right_lags)
+        && scale.iter().map(|x| *x as i64).eq(right_scale);
+    if !same {
+        fail(&format!("a line read: {number} and not {refusal}, {acf:?} {lags:?} {scale:?}\n{}", String::from_utf8_lossy(line)));
+    }
+    refusal
+}
+
+/// A frame written through the static library into a line of this length, with one byte more behind it, held to the line written above.
+fn compare_write(acf: &[i64], lags: &[i64], scale: i64, length: usize) -> i64 {
+    let a: Vec<i32> = acf.iter().map(|x| *x as i32).collect();
+    let l: Vec<u16> = lags.iter().map(|x| *x as u16).collect();
+    let mut line = vec![b'?'; length + 1];
+    let number = unsafe { lindenflax_write_line(a.as_ptr(), a.len(), l.as_ptr(), l.len(), scale as i16, line.as_mut_ptr(), length) };
+    let refusal = if acf.len() != 9 || lags.len() != 4 || length != LINE { 1 } else { second::frame_refusal(acf, lags, scale) };
+    let mut right = vec![b'?'; length + 1];
+    if refusal == 0 {
+        right[..LINE].copy_from_slice(&write_line(acf, lags, scale));
+        if second::decode(&right[..LINE]) != Ok((acf.to_vec(), lags.to_vec(), scale)) {
+            fail(&format!("a line does not read back: {}", String::from_utf8_lossy(&right)));
+        }
+    }
+    if number as i64 != refusal || line != right {
+        fail(&format!("a line written: {number} and not {refusal}\nframe {acf:?} lags {lags:?} scale {scale}\n{}", String::from_utf8_lossy(&line)));
+    }
+    refusal
+}
+
+/// Lines and frames through the static library, right, random and refused, and buffers of every length near the right one: how many lines were
+/// read and how many of them accepted, then the same of frames written.
+fn compare_lines(r: &mut Random) -> [usize; 4] {
+    let mut count = [0; 4];
+    let mut tell = |at: usize, refusal: i64| {
+        count[at] += 1;
+        count[at + 1] += (refusal == 0) as usize;
+    };
+    for _ in 0..400_000 {
+        let line = match r.next() % 8 {
+            0 => (0..r.from(0, 120)).map(|_| r.next() as u8).collect(),
+            1 => (0..81).map(|_| b"0123456789ABCDEF"[r.next() as usize % 16]).chain([b'\n']).collect(),
+            _ => any_line(r),
+        };
+        tell(0, compare_read(&line, (9, 4, 1)));
+        let (acf, lags, scale) = any_frame(r);
+        tell(2, compare_write(&acf, &lags, scale, LINE));
+    }
+    // each byte of a right line as every other byte, and the line cut and lengthened
+    let right = write_line(&[2147483647, -2147483647, 0, 1, -1, 9, -160, 43981, 2147483647], &[40, 120, 79, 65], 3);
+    for at in 0..LINE {
+        for byte in 0..=255 {
+            let mut line = right.clone();
+            line[at] = byte;
+            tell(0, compare_read(&line, (9, 4, 1)));
+        }
+        tell(0, compare_read(&right[..at], (9, 4, 1)));
+        tell(0, compare_read(&[&right[..], &right[..at + 1]].concat(), (9, 4, 1)));
+    }
+    // buffers of other lengths, for a frame that is right and one that is refused
+    for (first, scale, lag) in [(1, 0, 40), (-1, 0, 40), (1, 5, 40), (1, 4, 121)] {
+        let frame = |n: usize| (0..n).map(|i| if i == 0 { first } else { 0 }).collect::<Vec<i64>>();
+        let line = write_line(&frame(9), &[lag; 4], scale);
+        for n in 0..12 {
+            for k in 0..7 {
+                for one in 0..4 {
+                    tell(0, compare_read(&line, (n, k, one)));
+                    tell(0, compare_read(&line[1..], (n, k, one)));
+                }
+                for length in [0, 1, 72, 81, 82, 83, 200] {
+                    tell(2, compare_write(&frame(n), &vec![lag; k], scale, length));
+                }
+            }
+        }
+    }
+    count
+}
+
+/// Steps from states that were changed by hand, most of them not valid: how many, and how many were refused with 5.
+fn compare_changed(r: &mut Random) -> [usize; 2] {
+    let mut count = [0; 2];
+    let mut tell = |refusal: i64| {
+        count[0] += 1;
+        count[1] += (refusal == 5) as usize;
+    };
+    let (acf, lags) = ([1i64, 0, 0, 0, 0, 0, 0, 0, 0], [40i64; 4]);
+    for i in 0..STATE {
+        for x in [i32::MIN, -536870913, -100000, -33, -1, 1, 28, 100000, 536870912, i32::MAX] {
+            let mut run = run_of(&Memory::reset());
+            run[i] = x;
+            tell(compare_step(&acf, &lags, 0, &memory_of(&run)).refusal);
+        }
+    }
+    for _ in 0..100_000 {
+        let mut run = run_of(&any_state(r));
+        for _ in 0..r.from(1, 3) {
+            let i = r.from(0, STATE as i64 - 1) as usize;
+            run[i] = match r.next() % 4 {
+                0 => run[i].wrapping_add(r.from(-2, 2) as i32),
+                1 => run[i].wrapping_add(r.from(-1, 1) as i32 * 65536),
+                2 => r.from(-130, 130) as i32,
+                _ => r.next() as i32,
+            };
+        }
+        let (acf, lags, scale) = any_frame(r);
+        tell(compare_step(&acf, &lags, scale, &memory_of(&run)).refusal);
+    }
+    count
+}
+
+/// Resets and steps with buffers of other lengths, each with one number more behind it: how many.
+fn compare_lengths() -> usize {
+    let mut count = 0;
+    for n in 0..100 {
+        let mut state = vec![9i32; n + 1];
+        let number = unsafe { lindenflax_reset(state.as_mut_ptr(), n) };
+        let mut right = vec![9i32; n + 1];
+        if n == STATE {
+            right[..STATE].copy_from_slice(&run_of(&Memory::reset()));
+        }
+        if number != (n != STATE) as u8 || state != right {
+            fail(&format!("a reset of {n} numbers: {number} {state:?}"));
+        }
+        count += 1;
+    }
+    let (acf, lags) = ([1i32, 0, 0, 0, 0, 0, 0, 0, 0, 0, 0], [40u16; 6]);
+    for first in [24576, 0] {
+        let mut before = run_of(&Memory::reset());
+        before[0] = first;
+        before.extend([0; 2]);
+        for (a, l, s, k) in (0..11 * 6 * 86 * 8).map(|i| (i % 11, i / 11 % 6, i / 66 % 86, i / 5676)) {
+            if (a, l, s, k) == (9, 4, STATE, 6) {
+                continue;
+            }
+            let (mut state, mut answer) = (before.clone(), [-7i32; 8]);
+            let number = unsafe { lindenflax_step(acf.as_ptr(), a, lags.as_ptr(), l, 0, state.as_mut_ptr(), s, answer.as_mut_ptr(), k) };
+            if number != 1 || state != before || answer != [-7; 8] {
+                fail(&format!("a step of {a} numbers, {l} lags, {s} numbers of state and {k} of answer: {number}"));
+            }
+            count += 1;
+        }
+    }
+    count
 }
 
 /// What the program writes for a trace that comes in pieces.
@@ -281,30 +476,12 @@ fn main() {
             steps += 1;
         }
     }
-    // states that are not valid, and runs of the wrong length
-    for i in 0..STATE {
-        let (acf, lags) = ([1i32, 0, 0, 0, 0, 0, 0, 0, 0], [40u16; 4]);
-        for bad in [i32::MIN, -100000, -33, 28, 100000, i32::MAX] {
-            let mut state = run_of(&Memory::reset());
-            state[i] = bad;
-            let (before, mut answer) = (state.clone(), [0i32; 6]);
-            let number = unsafe { lindenflax_step(acf.as_ptr(), 9, lags.as_ptr(), 4, 0, state.as_mut_ptr(), STATE, answer.as_mut_ptr(), 6) };
-            if number != 0 && (number != 5 || state != before || answer != [0; 6]) {
-                fail(&format!("number {i} of the state as {bad}: {number}"));
-            }
-            steps += 1;
-        }
-        let mut state = run_of(&Memory::reset());
-        let mut answer = [0i32; 6];
-        let number = unsafe { lindenflax_step(acf.as_ptr(), 9, lags.as_ptr(), 4, 0, state.as_mut_ptr(), i, answer.as_mut_ptr(), 6) };
-        if number != 1 || state != run_of(&Memory::reset()) || answer != [0; 6] {
-            fail(&format!("a run of {i} numbers: {number}"));
-        }
-    }
-    let mut state = [9i32; STATE];
-    if unsafe { lindenflax_reset(state.as_mut_ptr(), STATE) } != 0 || state.to_vec() != run_of(&Memory::reset()) {
-        fail("reset");
-    }
     println!("{steps} steps from random states");
+
+    let [changed, refused] = compare_changed(&mut r);
+    println!("{changed} steps from changed states, {refused} of them refused as not valid");
+    println!("{} resets and steps with buffers of other lengths", compare_lengths());
+    let [read, accepted, written, right] = compare_lines(&mut r);
+    println!("{read} lines read through the library, {accepted} of them accepted, and {written} frames written, {right} of them accepted");
     println!("no difference (seed {seed})");
 }

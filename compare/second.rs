@@ -133,6 +133,7 @@ impl Memory {
             && self.l_sacf.iter().all(|x| (-536870912..=536870911).contains(x))
             && (0..3).all(|k| self.l_sacf[9 * k] >= 0)
             && (0..4).all(|k| self.l_sav0[9 * k] >= 0)
+            && self.rvad.iter().all(|x| (-32768..=32767).contains(x))
             && (16384..=32767).contains(&self.rvad[0])
             && weight <= 4 * self.rvad[0] + 11
             && (2..=9).contains(&self.normrvad)
