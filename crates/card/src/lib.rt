@@ -291,9 +291,9 @@ pub extern "C" fn lindenflax_read_line(
         return 1;
     }
     let h = read(line, acf, lags);
-    let number = h.refusal;
-    if number != 0 {
-        return number;
+    let n = h.refusal;
+    if n != 0 {
+        return n;
     }
     let s = h.scale;
     scale[0] = s;

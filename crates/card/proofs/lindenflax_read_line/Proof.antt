@@ -11,7 +11,7 @@ returns : tie.Need-returns
 returns c =
     let s = c .before .before .before in
     kept (s .args .line .now) (s .args .acf .now) (s .args .lags .now) (s .args .scale .now) 1
-    (no-scale (s .args .line .now) (s .args .acf .now) (s .args .lags .now) (s .args .scale .now) (c .if1 .taken)) (λ z. omega arith)
+    (no-scale (s .args .line .now) (s .args .acf .now) (s .args .lags .now) (s .args .scale .now) (λ z. omega arith)) (λ z. omega arith)
 
 read-requires : tie.Need-read-requires
 read-requires c κs = search needs
@@ -27,7 +27,7 @@ returns-2 c =
     let s = c .before .before .before .before .before .before .before .before .before .before in
     let r = c .before .before .before .before .read in
     refused-left (s .args .line .now) (s .args .acf .now) (s .args .lags .now) (s .args .scale .now) (r .result) _ _
-    (r .ensures .0) (r .ensures .1 .0) (r .ensures .1 .1) (c .before .before .before .before .before .before .before .if1 .left) (c .if2 .taken)
+    (r .ensures .0) (r .ensures .1 .0) (r .ensures .1 .1) (omega arith) (λ z. omega arith)
 
 slice-set-from-s : tie.Need-slice-set-from-s
 slice-set-from-s c = search needs
@@ -47,7 +47,7 @@ returns-3 c =
     let r = c .before .before .before .before .before .read in
     let b = back w16 {z = r .result .scale} (c .struct-told .given .1 .0 .1) in
     rw b (accepted-left (s .args .line .now) (s .args .acf .now) (s .args .lags .now) (s .args .scale .now) (r .result) _ _
-    (r .ensures .0) (r .ensures .1 .0) (r .ensures .1 .1) (c .before .before .before .before .before .before .before .before .if1 .left) (c .before .if2 .left))
+    (r .ensures .0) (r .ensures .1 .0) (r .ensures .1 .1) (omega arith) (omega arith))
 
 pub lindenflax-read-line-spec : {M : Type 1} → statement M
 lindenflax-read-line-spec =
