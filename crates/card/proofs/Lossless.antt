@@ -10,8 +10,8 @@ use Rattle.numbers.proofs.Parts.{zarith, of, sign}
 use Rattle.rows.specs.Rows.{row}
 use Rattle.state.specs.declared.State.{State}
 use Rattle.state.specs.Valid.{Between, Shaped}
-use Rattle.card.specs.Run.{part, stored, runOf, stateOf, narrowOf}
-use Rattle.card.proofs.Parted.{spread, sacf-within, sav0-within, lag-within}
+use Rattle.card.specs.Run.{part, runOf, stateOf, narrowOf}
+use Rattle.card.proofs.Parted.{stored, spread, sacf-within, sav0-within, lag-within}
 
 -- ---- a state comes back
 module _ (s : State) (shape : Shaped s) where
@@ -117,5 +117,5 @@ run-state l h t =
 
 -- ---- the stores that make a run
 pub packs : (z : List ℤ) (s : State) → length z ≡ 84 → Shaped s → set (set (set (set (set (set (set (set (set (set (set (set (stored (stored (stored z 0 (s .rvad) 9) 10 (s .sacf) 27) 38 (s .sav0) 36) 9 (s .normrvad)) 37 (pos (s .ptsacf))) 74 (pos (s .ptsav0))) 75 (s .lastdm)) 76 (s .thvad .e)) 77 (s .thvad .m)) 78 (s .adaptcount)) 79 (s .burstcount)) 80 (s .hangcount)) 81 (s .oldlagcount)) 82 (s .veryoldlagcount)) 83 (pos (s .oldlag)) ≡ runOf s
-unfolding stored runOf row
+unfolding runOf row
 packs z s h shape = rw (spread z 84 h, spread (s .rvad) 9 (shape .rvad), spread (s .sacf) 27 (shape .sacf), spread (s .sav0) 36 (shape .sav0))

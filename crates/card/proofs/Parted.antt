@@ -18,6 +18,10 @@ use Rattle.state.specs.Valid.{within, Between}
 use Rattle.state.proofs.Facts.{between}
 use Rattle.card.specs.Run.{part, shortsOf, narrowOf}
 
+-- ---- a run with the count numbers of s in place of those from `first` on, on the way to the whole
+abbrev pub stored : List ℤ → ℕ → List ℤ → ℕ → List ℤ
+stored l first s count = take first l ++ s ++ drop (first + count) l
+
 -- ---- a part
 module _ (first count : ℕ) (l : List ℤ) (h : first + count ≤ length l) where
   pub part-length : length (part first count l) ≡ count

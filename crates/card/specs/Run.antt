@@ -2,7 +2,7 @@
 -- they leave in each run that is lent to them, for every input. Assumes nothing.
 use mathlib.Core.Bool.{Bool, _&&_}
 use mathlib.Core.List.{List, [], _∷_, _++_}
-use Prim.Native.Nat.{ℕ, _+_}
+use Prim.Native.Nat.{ℕ}
 use lib.Dec.{eqb}
 use lib.IntN.{ℤ, natAbs, pos, negℤ}
 use lib.ListN.{length, take, drop}
@@ -61,10 +61,6 @@ stateOf l =
       veryoldlagcount = at l 82;
       oldlag = natAbs (at l 83);
     }
-
--- a run with the count numbers of s in place of those from `first` on, on the way to the whole
-unfoldable pub stored : List ℤ → ℕ → List ℤ → ℕ → List ℤ
-stored l first s count = take first l ++ s ++ drop (first + count) l
 
 -- each of some numbers is one of 16 bits
 unfoldable pub shortsOf : List ℤ → Bool

@@ -1,8 +1,9 @@
 // The detector's interface for C and Rust: a state and an answer as lent runs of numbers of 32 bits, and trace lines read and written.
 ghost use mathlib.Core.Path.{_≡_};
 ghost use mathlib.Core.Bool.{true};
+ghost use mathlib.Core.List.{_++_};
 ghost use Prim.Native.Nat.{_+_, _≤_};
-ghost use lib.ListN.{length};
+ghost use lib.ListN.{length, take, drop};
 ghost use Rattle.card.specs.Run as card;
 ghost use Rattle.card.specs.Lines as trace;
 use detector::Answer;
@@ -114,7 +115,7 @@ fn unpacked(run: [i32; 84]) -> State
 
 // A run with the filter in its place.
 fn with_filter(run: [i32; 84], rvad: [i16; 9]) -> [i32; 84]
-    ensures { λ r. ⌜ r ≡ card.stored run 0 rvad 9 ⌝ }
+    ensures { λ r. ⌜ r ≡ take 0 run ++ rvad ++ drop (0 + 9) run ⌝ }
 {
     let mut out = run;
     for i in 0..9 {
@@ -125,7 +126,7 @@ fn with_filter(run: [i32; 84], rvad: [i16; 9]) -> [i32; 84]
 
 // A run with the three frames in their place.
 fn with_frames(run: [i32; 84], sacf: [i32; 27]) -> [i32; 84]
-    ensures { λ r. ⌜ r ≡ card.stored run 10 sacf 27 ⌝ }
+    ensures { λ r. ⌜ r ≡ take 10 run ++ sacf ++ drop (10 + 27) run ⌝ }
 {
     let mut out = run;
     for i in 0..27 {
@@ -136,7 +137,7 @@ fn with_frames(run: [i32; 84], sacf: [i32; 27]) -> [i32; 84]
 
 // A run with the four averages in their place.
 fn with_sums(run: [i32; 84], sav0: [i32; 36]) -> [i32; 84]
-    ensures { λ r. ⌜ r ≡ card.stored run 38 sav0 36 ⌝ }
+    ensures { λ r. ⌜ r ≡ take 38 run ++ sav0 ++ drop (38 + 36) run ⌝ }
 {
     let mut out = run;
     for i in 0..36 {

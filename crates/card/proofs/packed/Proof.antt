@@ -11,7 +11,7 @@ use Rattle.numbers.proofs.Read.{cast-need, zreads}
 use Rattle.rows.specs.Rows.{row}
 use Rattle.rows.proofs.Fill.{length-row}
 use Rattle.state.specs.Valid.{Shaped}
-use Rattle.card.specs.Run.{stored}
+use Rattle.card.proofs.Parted.{stored}
 use Rattle.card.proofs.Lossless.{packs}
 use Rattle.card.proofs.packed.Statement.{statement}
 use Rattle.card.proofs.packed.Tie as tie

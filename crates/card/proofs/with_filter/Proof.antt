@@ -10,7 +10,6 @@ use Rattle.numbers.specs.Sum.{at}
 use Rattle.numbers.proofs.Read.{ranged, cast-back, cast-need}
 use lib.Seq.{paste, paste-zero}
 use Rattle.rows.proofs.Fill.{store-more, store-all}
-use Rattle.card.specs.Run.{stored}
 use Rattle.card.proofs.with_filter.Statement.{statement}
 use Rattle.card.proofs.with_filter.Tie as tie
 
@@ -62,7 +61,6 @@ loop-again c =
     )
 
 returns : tie.Need-returns Inv-loop μ-loop
-unfolding stored
 returns c =
     let t = c .before in
     store-all _ (t .before .args .run) 0 (t .before .args .t2) 9 (t .loop .i) (t .loop .inv .2) (omega arith) (t .loop .inv .3)

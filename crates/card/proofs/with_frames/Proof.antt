@@ -9,7 +9,6 @@ use mir.Syntax.{w32}
 use Rattle.numbers.proofs.Read.{back}
 use lib.Seq.{paste, paste-zero}
 use Rattle.rows.proofs.Fill.{store-more, store-all}
-use Rattle.card.specs.Run.{stored}
 use Rattle.card.proofs.with_frames.Statement.{statement}
 use Rattle.card.proofs.with_frames.Tie as tie
 
@@ -57,7 +56,6 @@ loop-again c =
     )
 
 returns : tie.Need-returns Inv-loop μ-loop
-unfolding stored
 returns c =
     let t = c .before in
     store-all _ (t .before .args .run) 10 (t .before .args .t2) 27 (t .loop .i) (t .loop .inv .2) (omega arith) (t .loop .inv .3)
