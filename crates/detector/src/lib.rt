@@ -61,11 +61,7 @@ fn four(lags: &[u16]) -> [u16; 4]
     requires { ⌜ length (now lags) ≡ 4 ⌝ }
     ensures { λ r. ⌜ r ≡ now (lags .entry) ⌝ }
 {
-    let mut out = [0u16; 4];
-    for i in 0..4 {
-        out[i] = lags[i];
-    }
-    out
+    [lags[0], lags[1], lags[2], lags[3]]
 }
 
 // Whether no number is larger in magnitude than the first, which is not negative.
