@@ -1,3 +1,4 @@
 pub mod Distance
 pub mod Demands
 pub mod Worked
+pub mod Sums

@@ -1,10 +1,11 @@
--- Frames worked out by the checker, from the state after a reset: the exact energy, the filter sum, and what a step answers. Assumes nothing.
+-- Frames worked out by the checker, from the state after a reset: the exact energy, and the flags that a step answers. The sums that document 01
+-- has done by hand are in Sums.antt. Assumes nothing.
 use mathlib.Core.Path.{_≡_, refl}
 use mathlib.Core.Bool.{false}
 use mathlib.Core.List.{List, [], _∷_}
 use Prim.Native.Nat.{_*_, _^_}
 use lib.Count.{leadingZeros}
-use lib.IntN.{ℤ, pos, negℤ}
+use lib.IntN.{ℤ, pos}
 use Rattle.numbers.specs.Sum.{sum, total}
 use Rattle.numbers.specs.Clamp.{clamp}
 use Rattle.numbers.specs.Floor.{residue}
@@ -12,7 +13,7 @@ use Rattle.numbers.specs.Wrap.{wrap}
 use Rattle.operations.specs.Operations.{add, sub, L-add, L-mult, shiftLeft, shiftRight, norm}
 use Rattle.rows.specs.Choice.{IF_THEN_ELSE_, eqZ}
 use Rattle.rows.specs.Rows.{row, all, L-sum}
-use Rattle.pairs.specs.Pairs.{pair, greaterOf}
+use Rattle.pairs.specs.Pairs.{greaterOf}
 use Rattle.energy.specs.Energy.{sacfOf, acf0Of, filterSumOf, positive, pvadOf, energyOf}
 use Rattle.energy.specs.Exact.{exactOf}
 use Rattle.threshold.specs.Threshold.{adaptOf}
@@ -21,39 +22,22 @@ use Rattle.state.specs.Valid.{within, pointerOk, sacfWithin, sacfOk, sav0Ok, we
 use Rattle.detector.specs.declared.Answer.{Answer}
 use Rattle.detector.specs.Refusal.{lengthsOk, scaleOk, acfOk, lagsOk, frameRefusalOf, refusalOf}
 use Rattle.detector.specs.Step.{acceptedOf, stepOf}
-use Rattle.demands.specs.Distance.{EOf, LOf, energyUnits}
+use Rattle.demands.specs.Distance.{EOf, energyUnits}
 
 -- L_ACF with only its first two numbers not 0
-abbrev acf : ℤ → ℤ → List ℤ
+abbrev pub acf : ℤ → ℤ → List ℤ
 acf x y = x ∷ y ∷ pos 0 ∷ pos 0 ∷ pos 0 ∷ pos 0 ∷ pos 0 ∷ pos 0 ∷ pos 0 ∷ []
 
 -- the answer to such a frame
-abbrev answer : ℤ → ℤ → Answer
+abbrev pub answer : ℤ → ℤ → Answer
 answer x y = stepOf (acf x y) (40 ∷ 40 ∷ 40 ∷ 40 ∷ []) (pos 0) resetOf
 
--- ---- 1, 0, ..: the exact energy is 24576·2^(0-4-7) = 12, and so is what pvad is worth
+-- ---- 1, 0, ..: the exact energy is 24576·2^(0-4-7) = 12
 pub energy-1-0 : energyUnits (acf (pos 1) (pos 0)) (resetOf .rvad) (pos 0) (pos 7) ≡ pos (12 * 2 ^ 80)
 unfolding energyUnits EOf exactOf sum resetOf
 energy-1-0 = refl
 
-pub answer-1-0 : (answer (pos 1) (pos 0) .refusal ≡ 0)
-    × (answer (pos 1) (pos 0) .vad ≡ false)
-    × (answer (pos 1) (pos 0) .vvad ≡ false)
-    × (answer (pos 1) (pos 0) .acf0 ≡ pair (pos 2) (pos 16384))
-    × (answer (pos 1) (pos 0) .pvad ≡ pair (pos 4) (pos 24576))
+-- the frame of document 01's whole case is answered 0 0 0
+pub answer-1-0 : (answer (pos 1) (pos 0) .refusal ≡ 0) × (answer (pos 1) (pos 0) .vad ≡ false) × (answer (pos 1) (pos 0) .vvad ≡ false)
 unfolding stepOf acceptedOf refusalOf frameRefusalOf lengthsOk scaleOk acfOk lagsOk validOf countsOk pointerOk sacfOk sacfWithin sav0Ok rvadOk weightOf thvadOk lagOk within resetOf row all total IF_THEN_ELSE_ energyOf acf0Of pvadOf filterSumOf positive sacfOf L-sum add sub L-add L-mult norm leadingZeros shiftLeft shiftRight clamp wrap residue eqZ adaptOf greaterOf hangoverOf startedOf burstOf runDownOf
-answer-1-0 = (refl, refl, refl, refl, refl)
-
--- ---- 4, 4, ..: the filter sum is not positive, and 1 stands for it
-pub sum-4-4 : LOf (acf (pos 4) (pos 4)) (resetOf .rvad) ≡ negℤ (pos 16777216)
-unfolding LOf resetOf filterSumOf sacfOf L-sum L-add L-mult norm leadingZeros shiftLeft shiftRight clamp wrap residue
-sum-4-4 = refl
-
-pub answer-4-4 : (answer (pos 4) (pos 4) .refusal ≡ 0) × (answer (pos 4) (pos 4) .pvad ≡ pair (negℤ (pos 19)) (pos 16384))
-unfolding stepOf acceptedOf refusalOf frameRefusalOf lengthsOk scaleOk acfOk lagsOk validOf countsOk pointerOk sacfOk sacfWithin sav0Ok rvadOk weightOf thvadOk lagOk within resetOf row all total IF_THEN_ELSE_ energyOf acf0Of pvadOf filterSumOf positive sacfOf L-sum add sub L-add L-mult norm leadingZeros shiftLeft shiftRight clamp wrap residue eqZ
-answer-4-4 = (refl, refl)
-
--- ---- 4, -4, ..
-pub answer-4-m4 : (answer (pos 4) (negℤ (pos 4)) .refusal ≡ 0) × (answer (pos 4) (negℤ (pos 4)) .pvad ≡ pair (pos 7) (pos 28672))
-unfolding stepOf acceptedOf refusalOf frameRefusalOf lengthsOk scaleOk acfOk lagsOk validOf countsOk pointerOk sacfOk sacfWithin sav0Ok rvadOk weightOf thvadOk lagOk within resetOf row all total IF_THEN_ELSE_ energyOf acf0Of pvadOf filterSumOf positive sacfOf L-sum add sub L-add L-mult norm leadingZeros shiftLeft shiftRight clamp wrap residue eqZ
-answer-4-m4 = (refl, refl)
+answer-1-0 = (refl, refl, refl)
