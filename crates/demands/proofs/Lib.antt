@@ -3,3 +3,4 @@ pub mod Distance
 pub mod Decision
 pub mod Reported
 pub mod Meets
+pub mod Idle

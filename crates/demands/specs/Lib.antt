@@ -2,3 +2,4 @@ pub mod Distance
 pub mod Demands
 pub mod Worked
 pub mod Sums
+pub mod Idle

@@ -1,7 +1,7 @@
 -- Frames worked out by the checker, from the state after a reset: the exact energy, and the flags that a step answers. The sums that document 01
 -- has done by hand are in Sums.antt. Assumes nothing.
 use mathlib.Core.Path.{_≡_, refl}
-use mathlib.Core.Bool.{false}
+use mathlib.Core.Bool.{true, false}
 use mathlib.Core.List.{List, [], _∷_}
 use Prim.Native.Nat.{_*_, _^_}
 use lib.Count.{leadingZeros}
@@ -41,3 +41,8 @@ energy-1-0 = refl
 pub answer-1-0 : (answer (pos 1) (pos 0) .refusal ≡ 0) × (answer (pos 1) (pos 0) .vad ≡ false) × (answer (pos 1) (pos 0) .vvad ≡ false)
 unfolding stepOf acceptedOf refusalOf frameRefusalOf lengthsOk scaleOk acfOk lagsOk validOf countsOk pointerOk sacfOk sacfWithin sav0Ok rvadOk weightOf thvadOk lagOk within resetOf row all total IF_THEN_ELSE_ energyOf acf0Of pvadOf filterSumOf positive sacfOf L-sum add sub L-add L-mult norm leadingZeros shiftLeft shiftRight clamp wrap residue eqZ adaptOf greaterOf hangoverOf startedOf burstOf runDownOf
 answer-1-0 = (refl, refl, refl)
+
+-- ---- 100000, 0, ..: the exact energy is 1200000, and 6.6 leaves the threshold at 800000. It is answered 0 1 1
+pub answer-100000-0 : (answer (pos 100000) (pos 0) .refusal ≡ 0) × (answer (pos 100000) (pos 0) .vad ≡ true) × (answer (pos 100000) (pos 0) .vvad ≡ true)
+unfolding stepOf acceptedOf refusalOf frameRefusalOf lengthsOk scaleOk acfOk lagsOk validOf countsOk pointerOk sacfOk sacfWithin sav0Ok rvadOk weightOf thvadOk lagOk within resetOf row all total IF_THEN_ELSE_ energyOf acf0Of pvadOf filterSumOf positive sacfOf L-sum add sub L-add L-mult norm leadingZeros shiftLeft shiftRight clamp wrap residue eqZ adaptOf greaterOf hangoverOf startedOf burstOf runDownOf
+answer-100000-0 = (refl, refl, refl)
