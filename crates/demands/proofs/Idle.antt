@@ -3,13 +3,16 @@
 use mathlib.Core.Path.{_≡_, refl, sym, ap, ap₂, _∙_}
 use mathlib.Core.Bool.{Bool, true, false, true≢false, false≢true}
 use mathlib.Core.List.{List}
-use Prim.Native.Nat.{ℕ}
+use Prim.Native.Nat.{ℕ, zero, suc, _^_, _<_}
 use native.Mathlib.Omega.{arith}
 use lib.Count.{leadingZeros}
 use lib.Dec.{eqb}
 use lib.IntN.{ℤ, pos}
+use lib.ListN.{replicate}
 use lib.Signed.{leZ}
-use Rattle.numbers.specs.Sum.{total}
+use mir.Syntax.{w32}
+use mir.Val.{SFits}
+use Rattle.numbers.specs.Sum.{at, sum, total}
 use Rattle.numbers.specs.Clamp.{clamp}
 use Rattle.numbers.specs.Floor.{residue}
 use Rattle.numbers.specs.Wrap.{wrap}
@@ -18,8 +21,9 @@ use Rattle.rows.specs.Choice.{IF_THEN_ELSE_, eqZ}
 use Rattle.rows.specs.Rows.{row, all, L-sum}
 use Rattle.pairs.specs.Pairs.{greaterOf}
 use Rattle.energy.specs.Energy.{sacfOf, acf0Of, filterSumOf, positive, pvadOf, energyOf}
+use Rattle.energy.specs.Exact.{exactOf}
 use Rattle.averages.specs.Averages.{inside, L-tempOf, L-av0Of, storedOf, nextOf, averageOf}
-use Rattle.threshold.specs.Threshold.{adaptOf}
+use Rattle.threshold.specs.Threshold.{PLEV, adaptOf}
 use Rattle.hangover.specs.Hangover.{burstOf, runDownOf, startedOf, hangoverOf}
 use Rattle.lags.specs.Lags.{smallagOf, countedOf, onceOf, lagcountOf}
 use Rattle.state.specs.declared.State.{State}
@@ -27,7 +31,12 @@ use Rattle.state.specs.Valid.{within, pointerOk, sacfWithin, sacfOk, sav0Ok, we
 use Rattle.detector.specs.declared.Answer.{Answer}
 use Rattle.detector.specs.Refusal.{lengthsOk, scaleOk, acfOk, lagsOk, frameRefusalOf, refusalOf}
 use Rattle.detector.specs.Step.{spectralOf, movedOf, acceptedOf, refusedOf, stepOf}
-use Rattle.demands.specs.Idle.{OnlyOne, Program, Meets, quiet, loud, forty, Stopped, RefusesAll, Refuser, Says, AlwaysSpeech, AlwaysQuiet, Keeps, HandsBack, KeepsPointer, KeepsLagcount, Repeats, Repeater}
+use Rattle.detector.proofs.Keeps.{Numbers}
+use Rattle.demands.specs.Demands.{Demand3}
+use Rattle.demands.specs.Distance.{EOf, WOf, aOf, LOf, pOf, distanceOf, energyUnits, distanceUnits, pairUnits}
+use Rattle.demands.specs.Worked.{acf}
+use Rattle.demands.specs.Idle.{OnlyOne, Program, Meets, quiet, loud, forty, Stopped, RefusesAll, Refuser, Says, AlwaysSpeech, AlwaysQuiet, DecidesQuiet, DecidesSpeech, Keeps, HandsBack, KeepsPointer, KeepsLagcount, Repeats, Repeater}
+use Rattle.demands.proofs.Meets.{demand-3, reset-meets}
 
 -- ---- only one answer
 pub only-one : {A : Type 0} (definition : A) → OnlyOne (λ (r : A). r ≡ definition)
@@ -68,6 +77,33 @@ saying t L-ACF lags scalvad s =
 
 pub always-is : (t : Bool) → Says t (saying t)
 always-is t L-ACF lags scalvad s e = refl
+
+-- ---- the raw decision, from demand 3: 12 falls short of 800000 by more than the distance, and 1200000 beats it by more
+pub decides-quiet : DecidesQuiet
+unfolding LOf energyUnits distanceUnits pairUnits distanceOf aOf pOf EOf WOf weightOf exactOf sum total resetOf filterSumOf sacfOf L-sum L-add L-mult norm leadingZeros shiftLeft shiftRight clamp wrap residue
+decides-quiet r t d = d .quiet (record { lt = tt }) (rw t (record { le = tt }))
+
+pub decides-speech : DecidesSpeech
+unfolding LOf energyUnits distanceUnits pairUnits distanceOf aOf pOf EOf WOf weightOf exactOf sum total resetOf filterSumOf sacfOf L-sum L-add L-mult norm leadingZeros shiftLeft shiftRight clamp wrap residue
+decides-speech r t d = d .speech (record { lt = tt }) (rw t (record { lt = tt }))
+
+-- the step's own answers are such answers
+zeros-fit : (n k : ℕ) → SFits w32 (at (replicate n (pos 0)) k)
+zeros-fit zero k = record { sfits = omega arith }
+zeros-fit (suc n) zero = record { sfits = omega arith }
+zeros-fit (suc n) (suc k) = zeros-fit n k
+
+numbers : (n : ℕ) → n < 2 ^ 31 → Numbers (acf (pos n) (pos 0))
+numbers n h zero = record { sfits = h }
+numbers n h (suc k) = zeros-fit 8 k
+
+pub decides-quiet-is : (stepOf quiet forty (pos 0) resetOf .next .thvad ≡ PLEV) × Demand3 quiet (pos 0) resetOf (stepOf quiet forty (pos 0) resetOf)
+unfolding stepOf acceptedOf refusalOf frameRefusalOf lengthsOk scaleOk acfOk lagsOk validOf countsOk pointerOk sacfOk sacfWithin sav0Ok rvadOk weightOf thvadOk lagOk within resetOf row all total IF_THEN_ELSE_ energyOf acf0Of sacfOf add sub norm leadingZeros shiftLeft shiftRight clamp wrap residue eqZ adaptOf greaterOf
+decides-quiet-is = (refl, demand-3 quiet forty (pos 0) resetOf (numbers 1 (omega arith)) (reset-meets .1) refl (record { le = tt }))
+
+pub decides-speech-is : (stepOf loud forty (pos 0) resetOf .next .thvad ≡ PLEV) × Demand3 loud (pos 0) resetOf (stepOf loud forty (pos 0) resetOf)
+unfolding stepOf acceptedOf refusalOf frameRefusalOf lengthsOk scaleOk acfOk lagsOk validOf countsOk pointerOk sacfOk sacfWithin sav0Ok rvadOk weightOf thvadOk lagOk within resetOf row all total IF_THEN_ELSE_ energyOf acf0Of sacfOf add sub norm leadingZeros shiftLeft shiftRight clamp wrap residue eqZ adaptOf greaterOf
+decides-speech-is = (refl, demand-3 loud forty (pos 0) resetOf (numbers 100000 (omega arith)) (reset-meets .1) refl (record { le = tt }))
 
 -- ---- 4. hands back the state it got
 pub keeps-pointer : KeepsPointer

@@ -6,10 +6,12 @@ use mathlib.Core.Bool.{Bool, true, false}
 use mathlib.Core.List.{List, [], _∷_}
 use Prim.Native.Nat.{ℕ}
 use lib.IntN.{ℤ, pos}
+use Rattle.threshold.specs.Threshold.{PLEV}
 use Rattle.state.specs.declared.State.{State}
 use Rattle.state.specs.Valid.{resetOf}
 use Rattle.detector.specs.declared.Answer.{Answer}
 use Rattle.detector.specs.Step.{stepOf}
+use Rattle.demands.specs.Demands.{Demand3}
 use Rattle.demands.specs.Worked.{acf}
 
 -- ---- no two different answers satisfy a promise. What a lent buffer holds afterwards is part of the answer: the pair of both
@@ -54,6 +56,16 @@ AlwaysSpeech = Stopped (Says true) quiet resetOf
 
 abbrev pub AlwaysQuiet : Type 0
 AlwaysQuiet = Stopped (Says false) loud resetOf
+
+-- the raw decision: demand 3 alone leaves no choice of vvad, where the threshold in force is that below the level of 6.6
+abbrev pub Decides : List ℤ → Bool → Type 0
+Decides L-ACF t = (r : Answer) → r .next .thvad ≡ PLEV → Demand3 L-ACF (pos 0) resetOf r → r .vvad ≡ t
+
+abbrev pub DecidesQuiet : Type 0
+DecidesQuiet = Decides quiet false
+
+abbrev pub DecidesSpeech : Type 0
+DecidesSpeech = Decides loud true
 
 -- ---- 4. "one that returns the state it got". 6.2 stops it, which moves the histories' pointers, and 6.9 stops it, which counts the lags: a program
 -- that keeps only the one, or only the other, is stopped as well
