@@ -1,4 +1,5 @@
 // Runs a trace: from standard input, or from the file that is named as the one argument, to the answers on standard output, four bytes a line.
+use libc::STDERR_FILENO;
 use libc::STDIN_FILENO;
 use libc::STDOUT_FILENO;
 use runner::Runner;
@@ -72,6 +73,10 @@ fn run(fd: i32, path: &[u8]) {
 fn main() {
     if os::arg_count() < 2 {
         run(STDIN_FILENO, b"standard input");
+        return;
+    }
+    if os::arg_count() > 2 {
+        io::write_all(STDERR_FILENO, b"run_trace: one file at most\n");
         return;
     }
     let mut path = io::buffer();
