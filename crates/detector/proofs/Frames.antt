@@ -74,7 +74,7 @@ module _ (L-ACF : List ℤ) (lags : List ℕ) (scalvad : ℤ) (s : State) (fits 
 
   accepted-by-worth : ByWorth (acceptedOf L-ACF lags scalvad s)
   unfolding acceptedOf
-  accepted-by-worth = worth-order _ _ pvad-valued (inl (normalised (pos 64) (sound L-ACF lags scalvad s fits shape ok .thvad-in)))
+  accepted-by-worth = worth-order _ _ pvad-valued (inl (normalised (pos 64) (sound L-ACF lags scalvad s fits shape ok _ .thvad-in)))
 
   -- the raw decision is speech exactly if pvad is worth more than the threshold in force
   pub decision-by-worth : ByWorth (stepOf L-ACF lags scalvad s)

@@ -30,7 +30,7 @@ use Rattle.averages.proofs.Pointers.{Pointer}
 use Rattle.averages.proofs.Kept.{Kept27, Kept36, kept27, kept36, Incoming, average-keeps}
 use Rattle.predictor.specs.Filter.{predictedOf}
 use Rattle.predictor.proofs.Bounds.{Whitening, predicted-whitening}
-use Rattle.lags.specs.Lags.{ptchOf, lagcountOf}
+use Rattle.lags.specs.Lags.{lagcountOf}
 use Rattle.lags.proofs.Range.{lagcount-le}
 use Rattle.threshold.specs.declared.Kept.{Kept}
 use Rattle.threshold.specs.Threshold.{PTH, adaptOf}
@@ -189,18 +189,19 @@ module _ (L-ACF : List ℤ) (lags : List ℕ) (scalvad : ℤ) (s : State) (fits 
     abbrev pub was : Kept
     was = record { thvad = s .thvad; adaptcount = s .adaptcount; rvad = s .rvad; normrvad = s .normrvad }
 
-    abbrev pub k : Kept
-    k = adaptOf (e .acf0) (e .pvad) (ptchOf (s .oldlagcount) (s .veryoldlagcount)) (m .stat) (m .rav1) (m .normrav1) was
+    -- 6.6 to 6.8: what they leave is valid whatever ptch is
+    abbrev pub k : Bool → Kept
+    k ptch = adaptOf (e .acf0) (e .pvad) ptch (m .stat) (m .rav1) (m .normrav1) was
 
-    abbrev pub vvad : Bool
-    vvad = greaterOf (e .pvad) (k .thvad)
+    abbrev pub vvad : Bool → Bool
+    vvad ptch = greaterOf (e .pvad) (k ptch .thvad)
 
     pub moving : Moving m
     moving = moved-keeps s shape v L-ACF scalvad incoming
 
-    pub sound : Sound k
-    sound =
-        adapt-keeps (e .acf0) (e .pvad) (ptchOf (s .oldlagcount) (s .veryoldlagcount)) (m .stat) (m .rav1) (m .normrav1) was
+    pub sound : (ptch : Bool) → Sound (k ptch)
+    sound ptch =
+        adapt-keeps (e .acf0) (e .pvad) ptch (m .stat) (m .rav1) (m .normrav1) was
         (record {
           thvad-in = record { e-low = v .exponent .from; e-high = v .exponent .to; mantissa = record { low = v .mantissa .from; high = v .mantissa .to } };
           count-low = v .adaptcount .from;
@@ -208,13 +209,13 @@ module _ (L-ACF : List ℤ) (lags : List ℕ) (scalvad : ℤ) (s : State) (fits 
         })
         (energy-loud L-ACF scalvad (s .rvad) (s .normrvad) kind (ok .scale .from) (ok .scale .to) filter-ok (v .normrvad .from) (v .normrvad .to))
 
-    filtering : Filtering (k .rvad) (k .normrvad)
-    filtering =
-        adapt-filter (e .acf0) (e .pvad) (ptchOf (s .oldlagcount) (s .veryoldlagcount)) (m .stat) (m .rav1) (m .normrav1) was Filtering (filter-was s shape v) (moving .filter)
+    filtering : (ptch : Bool) → Filtering (k ptch .rvad) (k ptch .normrvad)
+    filtering ptch =
+        adapt-filter (e .acf0) (e .pvad) ptch (m .stat) (m .rav1) (m .normrav1) was Filtering (filter-was s shape v) (moving .filter)
 
-    counts : Counts (hangoverOf vvad (s .burstcount) (s .hangcount) .burstcount) (hangoverOf vvad (s .burstcount) (s .hangcount) .hangcount)
-    counts =
-        hangover-keeps vvad (s .burstcount) (s .hangcount)
+    counts : (ptch : Bool) → Counts (hangoverOf (vvad ptch) (s .burstcount) (s .hangcount) .burstcount) (hangoverOf (vvad ptch) (s .burstcount) (s .hangcount) .hangcount)
+    counts ptch =
+        hangover-keeps (vvad ptch) (s .burstcount) (s .hangcount)
         (record { burst-lo = v .burstcount .from; burst-hi = v .burstcount .to; hang-lo = v .hangcount .from; hang-hi = v .hangcount .to })
 
     accepted-valid : Valid (acceptedOf L-ACF lags scalvad s .next)
@@ -228,14 +229,14 @@ module _ (L-ACF : List ℤ) (lags : List ℕ) (scalvad : ℤ) (s : State) (fits 
           sacf-first = (moving .frames .firsts 0 refl, moving .frames .firsts 9 refl, moving .frames .firsts 18 refl);
           sacf-each = λ i. record { from = moving .frames .each i .0; to = moving .frames .each i .1 };
           sav0-first = (moving .sums .firsts 0 refl, moving .sums .firsts 9 refl, moving .sums .firsts 18 refl, moving .sums .firsts 27 refl);
-          rvad-first = filtering .first;
-          rvad-weight = filtering .weight;
-          normrvad = filtering .norm;
-          mantissa = record { from = sound .thvad-in .mantissa .low; to = sound .thvad-in .mantissa .high };
-          exponent = record { from = sound .thvad-in .e-low; to = sound .thvad-in .e-high };
-          adaptcount = record { from = sound .count-low; to = sound .count-high };
-          burstcount = record { from = counts .burst-lo; to = counts .burst-hi };
-          hangcount = record { from = counts .hang-lo; to = counts .hang-hi };
+          rvad-first = filtering _ .first;
+          rvad-weight = filtering _ .weight;
+          normrvad = filtering _ .norm;
+          mantissa = record { from = sound _ .thvad-in .mantissa .low; to = sound _ .thvad-in .mantissa .high };
+          exponent = record { from = sound _ .thvad-in .e-low; to = sound _ .thvad-in .e-high };
+          adaptcount = record { from = sound _ .count-low; to = sound _ .count-high };
+          burstcount = record { from = counts _ .burst-lo; to = counts _ .burst-hi };
+          hangcount = record { from = counts _ .hang-lo; to = counts _ .hang-hi };
           oldlagcount = record { from = omega zarith; to = omega (zarith, lagcount-le (s .oldlag) lags, ok .four) };
           veryoldlagcount = v .oldlagcount;
           oldlag = ok .each-lag 3 (omega arith);
@@ -243,7 +244,7 @@ module _ (L-ACF : List ℤ) (lags : List ℕ) (scalvad : ℤ) (s : State) (fits 
 
     accepted-shape : Shaped (acceptedOf L-ACF lags scalvad s .next)
     unfolding acceptedOf
-    accepted-shape = record { rvad = filtering .size; sacf = moving .frames .size; sav0 = moving .sums .size }
+    accepted-shape = record { rvad = filtering _ .size; sacf = moving .frames .size; sav0 = moving .sums .size }
 
   abbrev number : ℕ
   number = refusalOf L-ACF lags scalvad s

@@ -2,12 +2,11 @@
 -- that side, and the order is kept. Then the three answers of code that clamps a number of one width to another. Each law holds at every width.
 -- Assumes nothing.
 use mathlib.Core.Path.{_≡_, sym, ap, _∙_, subst}
-use mathlib.Core.Bool.{true, false}
 use mathlib.Core.Logic.{_↔_}
 use Prim.Native.Nat.{ℕ, suc, _+_, _-_, _^_, _<_, _≤_, min}
 use native.Mathlib.Omega.{arith}
 use lib.IntN.{ℤ, pos, negsuc}
-use lib.Signed.{ltZ, _≤ℤ_, _<ℤ_}
+use lib.Signed.{_≤ℤ_}
 use lib.Pow.{pow-pos}
 use mir.Syntax.{Width}
 use mir.Val.{SFits, hbits, toZ, ofZ}
@@ -55,14 +54,11 @@ clamp-mono w (negsuc a) (negsuc b) h = omega zarith
 
 -- ---- the code `if x > HIGHEST { return HIGHEST; } if x < LOWEST { return LOWEST; } x as NARROW`, with x of the width v
 module _ (v w : Width) {x : ℤ} (f : SFits v x) where
-  pub code-high : ltZ (highest w) (toZ v (ofZ v x)) ≡ true → highest w ≡ clamp w x
-  code-high t = let s = simp (toZ-ofZ, f) at t in sym (clamp-high w x (omega zarith))
+  pub code-high : highest w ≤ℤ toZ v (ofZ v x) → highest w ≡ clamp w x
+  code-high t = sym (clamp-high w x (simp (toZ-ofZ, f) at t))
 
-  pub code-low : ltZ (toZ v (ofZ v x)) (lowest w) ≡ true → lowest w ≡ clamp w x
-  code-low t = let s = simp (toZ-ofZ, f) at t in sym (clamp-low w x (omega zarith))
-
-  pub code-fits : ltZ (highest w) (toZ v (ofZ v x)) ≡ false → ltZ (toZ v (ofZ v x)) (lowest w) ≡ false → SFits w (toZ v (ofZ v x))
-  code-fits s t = omega (zarith, pow-pos (hbits w))
+  pub code-low : toZ v (ofZ v x) ≤ℤ lowest w → lowest w ≡ clamp w x
+  code-low t = sym (clamp-low w x (simp (toZ-ofZ, f) at t))
 
   pub code-in : SFits w (toZ v (ofZ v x)) → toZ w (ofZ w (toZ v (ofZ v x))) ≡ clamp w x
   code-in g = toZ-ofZ g ∙ toZ-ofZ f ∙ sym (clamp-in w x (simp (toZ-ofZ, f) at g))

@@ -1,8 +1,11 @@
 -- `hangover::run_down` takes one frame off a running hangover. Assumes nothing.
 use borrow.Author.Needs.{needs}
 use mathlib.Core.Path.{_≡_}
+use mathlib.Core.Bool.{true, false}
 use lib.IntN.{pos}
+use lib.Signed.{leZ}
 use mir.Syntax.{w16}
+use Rattle.numbers.proofs.Parts.{zarith}
 use Rattle.numbers.proofs.Read.{back, ranged, zreads}
 use Rattle.operations.specs.Operations.{sub}
 use Rattle.rows.specs.Choice.{IF_THEN_ELSE_}
@@ -19,8 +22,9 @@ returns c =
     let s = c .before .before in
     let f = s .fits .burstcount in
     let g = s .fits .hangcount in
-    let h = ranged w16 (c .sub .result) (c .sub .ok) in
-    let t = simp zreads at (c .before .if1 .taken) in
+    let k = ranged w16 (c .sub .result) (c .sub .ok) in
+    let h = simp zreads at (c .before .if1 .taken) in
+    let t : leZ (pos 0) (s .args .hangcount) ≡ true = omega zarith in
     let e : c .sub .result ≡ sub (s .args .hangcount) (pos 1) = simp zreads at (c .sub .ensures) in
     simp zreads (rw (t, e))
 
@@ -30,7 +34,8 @@ returns-2 c =
     let s = c .before in
     let f = s .fits .burstcount in
     let g = s .fits .hangcount in
-    let t = simp zreads at (c .if1 .left) in
+    let h = simp zreads at (c .if1 .left) in
+    let t : leZ (pos 0) (s .args .hangcount) ≡ false = omega zarith in
     simp zreads (rw t)
 
 pub run-down-spec : {M : Type 1} → statement M
