@@ -5,9 +5,13 @@
 //!     bench second FILE STEPS                     the same steps of the second implementation
 //!     bench steps FILE STEPS ROUNDS               both in turn: best seconds of each, best of the processor's
 #[allow(dead_code)]
+#[path = "../crates/card/lindenflax.rs"]
+mod lindenflax;
+#[allow(dead_code)]
 #[path = "second.rs"]
 mod second;
 
+use lindenflax::{lindenflax_reset, lindenflax_step};
 use second::{Memory, LINE};
 use std::fs::File;
 use std::io::{Read, Write};
@@ -15,11 +19,6 @@ use std::process::{exit, Command, Stdio};
 use std::time::Instant;
 
 extern "C" {
-    fn lindenflax_reset(state: *mut i32, state_len: usize) -> u8;
-    fn lindenflax_step(
-        acf: *const i32, acf_len: usize, lags: *const u16, lags_len: usize, scale: i16,
-        state: *mut i32, state_len: usize, answer: *mut i32, answer_len: usize,
-    ) -> u8;
     fn getrusage(who: i32, usage: *mut [i64; 18]) -> i32;
     fn wait4(pid: i32, status: *mut i32, options: i32, usage: *mut [i64; 18]) -> i32;
 }

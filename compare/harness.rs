@@ -3,28 +3,16 @@
 //!     harness RUN_TRACE TRACES SEED
 //!
 //! RUN_TRACE is the program, TRACES a folder of NAME.trace with NAME.expected beside it, SEED a number.
+#[path = "../crates/card/lindenflax.rs"]
+mod lindenflax;
 #[allow(dead_code)]
 #[path = "second.rs"]
 mod second;
 
+use lindenflax::{lindenflax_read_line, lindenflax_reset, lindenflax_step, lindenflax_write_line};
 use second::{Answer, Memory, LINE};
 use std::io::{Read, Write};
 use std::process::{exit, Command, Stdio};
-
-extern "C" {
-    fn lindenflax_reset(state: *mut i32, state_len: usize) -> u8;
-    fn lindenflax_step(
-        acf: *const i32, acf_len: usize, lags: *const u16, lags_len: usize, scale: i16,
-        state: *mut i32, state_len: usize, answer: *mut i32, answer_len: usize,
-    ) -> u8;
-    fn lindenflax_read_line(
-        line: *const u8, line_len: usize, acf: *mut i32, acf_len: usize, lags: *mut u16, lags_len: usize,
-        scale: *mut i16, scale_len: usize,
-    ) -> u8;
-    fn lindenflax_write_line(
-        acf: *const i32, acf_len: usize, lags: *const u16, lags_len: usize, scale: i16, line: *mut u8, line_len: usize,
-    ) -> u8;
-}
 
 const STATE: usize = 84;
 
