@@ -120,11 +120,11 @@ module _ (L-ACF : List ℤ) (lags : List ℕ) (scalvad : ℤ) (s : State) where
   -- ---- the answer
   pub step-accepted : refusalOf L-ACF lags scalvad s ≡ 0 → stepOf L-ACF lags scalvad s ≡ acceptedOf L-ACF lags scalvad s
   unfolding stepOf
-  step-accepted e = by-yes (acceptedOf L-ACF lags scalvad s) (refusedOf (refusalOf L-ACF lags scalvad s) s) (eq-eqb (refusalOf L-ACF lags scalvad s) 0 e)
+  step-accepted e = by-yes _ _ (eq-eqb (refusalOf L-ACF lags scalvad s) 0 e)
 
   pub step-refused : (refusalOf L-ACF lags scalvad s ≡ 0 → ⊥) → stepOf L-ACF lags scalvad s ≡ refusedOf (refusalOf L-ACF lags scalvad s) s
   unfolding stepOf
-  step-refused h = by-no (acceptedOf L-ACF lags scalvad s) (refusedOf (refusalOf L-ACF lags scalvad s) s) (ne-eqb (refusalOf L-ACF lags scalvad s) 0 h)
+  step-refused h = by-no _ _ (ne-eqb (refusalOf L-ACF lags scalvad s) 0 h)
 
 -- a refusal: flags 0, energies 0 in both parts, the state as given, and the number
 pub record Refusing (number : ℕ) (s : State) (r : Answer) : Type 0 where
