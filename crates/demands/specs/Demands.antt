@@ -1,7 +1,7 @@
--- The three demands on the detector, with the table, the clauses and the distance of document 01. Read this file first: each record below is one demand, a statement about `stepOf`, which
--- is what the function `detector::step` promises to answer for every input (its `ensures`). The proofs stand in proofs/. That every call ends and
--- that nothing overflows is what the toolchain proves of every function; the lent buffers are lent for reading only, so no call writes to them.
--- Assumes nothing.
+-- The three demands on the detector, with the table, the clauses and the distance of document 01. Read this file first: each record below is one
+-- demand, a statement about `stepOf`, which is what the function `detector::step` promises to answer for every input (its `ensures`). The proofs
+-- stand in proofs/. That every call ends and that nothing overflows is what the toolchain proves of every function; the lent buffers are lent for
+-- reading only, so no call writes to them. Assumes nothing.
 use mathlib.Core.Path.{_≡_}
 use mathlib.Core.Bool.{true, false}
 use mathlib.Core.List.{List}
