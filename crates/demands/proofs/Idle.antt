@@ -34,8 +34,8 @@ use Rattle.detector.specs.Step.{spectralOf, movedOf, acceptedOf, refusedOf, ste
 use Rattle.detector.proofs.Keeps.{Numbers}
 use Rattle.demands.specs.Demands.{Demand3}
 use Rattle.demands.specs.Distance.{EOf, WOf, aOf, LOf, pOf, distanceOf, energyUnits, distanceUnits, pairUnits}
-use Rattle.demands.specs.Worked.{acf}
-use Rattle.demands.specs.Idle.{OnlyOne, Program, Meets, quiet, loud, forty, Stopped, RefusesAll, Refuser, Says, AlwaysSpeech, AlwaysQuiet, DecidesQuiet, DecidesSpeech, Keeps, HandsBack, KeepsPointer, KeepsLagcount, Repeats, Repeater}
+use Rattle.demands.specs.Worked.{acf, forty}
+use Rattle.demands.specs.Idle.{OnlyOne, Program, Meets, quiet, loud, Stopped, RefusesAll, Refuser, Says, AlwaysSpeech, AlwaysQuiet, DecidesQuiet, DecidesSpeech, Keeps, HandsBack, KeepsPointer, KeepsLagcount, Repeats, Repeater}
 use Rattle.demands.proofs.Meets.{demand-3, reset-meets}
 
 -- ---- only one answer

@@ -3,7 +3,7 @@
 -- proofs/Idle.antt proves them, and shows a program of each class. Assumes nothing.
 use mathlib.Core.Path.{_≡_}
 use mathlib.Core.Bool.{Bool, true, false}
-use mathlib.Core.List.{List, [], _∷_}
+use mathlib.Core.List.{List}
 use Prim.Native.Nat.{ℕ}
 use lib.IntN.{ℤ, pos}
 use Rattle.threshold.specs.Threshold.{PLEV}
@@ -12,7 +12,7 @@ use Rattle.state.specs.Valid.{resetOf}
 use Rattle.detector.specs.declared.Answer.{Answer}
 use Rattle.detector.specs.Step.{stepOf}
 use Rattle.demands.specs.Demands.{Demand3}
-use Rattle.demands.specs.Worked.{acf}
+use Rattle.demands.specs.Worked.{acf, forty}
 
 -- ---- no two different answers satisfy a promise. What a lent buffer holds afterwards is part of the answer: the pair of both
 abbrev pub OnlyOne : {A : Type 0} → (A → Type 0) → Type 0
@@ -32,9 +32,6 @@ quiet = acf (pos 1) (pos 0)
 
 abbrev pub loud : List ℤ
 loud = acf (pos 100000) (pos 0)
-
-abbrev pub forty : List ℕ
-forty = 40 ∷ 40 ∷ 40 ∷ 40 ∷ []
 
 -- no program of the class answers this frame, from this state, as is promised
 abbrev pub Stopped : (Program → Type 0) → List ℤ → State → Type 0

@@ -3,7 +3,7 @@
 use mathlib.Core.Path.{_≡_, refl}
 use mathlib.Core.Bool.{true, false}
 use mathlib.Core.List.{List, [], _∷_}
-use Prim.Native.Nat.{_*_, _^_}
+use Prim.Native.Nat.{ℕ, _*_, _^_}
 use lib.Count.{leadingZeros}
 use lib.IntN.{ℤ, pos}
 use Rattle.numbers.specs.Sum.{sum, total}
@@ -28,9 +28,13 @@ use Rattle.demands.specs.Distance.{EOf, energyUnits}
 abbrev pub acf : ℤ → ℤ → List ℤ
 acf x y = x ∷ y ∷ pos 0 ∷ pos 0 ∷ pos 0 ∷ pos 0 ∷ pos 0 ∷ pos 0 ∷ pos 0 ∷ []
 
+-- four lags of 40
+abbrev pub forty : List ℕ
+forty = 40 ∷ 40 ∷ 40 ∷ 40 ∷ []
+
 -- the answer to such a frame
 abbrev pub answer : ℤ → ℤ → Answer
-answer x y = stepOf (acf x y) (40 ∷ 40 ∷ 40 ∷ 40 ∷ []) (pos 0) resetOf
+answer x y = stepOf (acf x y) forty (pos 0) resetOf
 
 -- ---- 1, 0, ..: the exact energy is 24576·2^(0-4-7) = 12
 pub energy-1-0 : energyUnits (acf (pos 1) (pos 0)) (resetOf .rvad) (pos 0) (pos 7) ≡ pos (12 * 2 ^ 80)
