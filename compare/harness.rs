@@ -1,15 +1,13 @@
 //! Feeds the detector and the second program the same input, and stops at the first difference.
 //!
-//!     harness RUN_TRACE TRACES SEED
+//!     harness RUN_TRACE CALLS TRACES SEED
 //!
-//! RUN_TRACE is the program, TRACES a folder of NAME.trace with NAME.expected beside it, SEED a number.
-#[path = "../crates/card/lindenflax.rs"]
-mod lindenflax;
+//! RUN_TRACE is the program and CALLS that of calls.c, which calls the static library; compare/on_x86_64 runs them both. TRACES is a folder of
+//! NAME.trace with NAME.expected beside it, SEED a number.
 #[allow(dead_code)]
 #[path = "second.rs"]
 mod second;
 
-use lindenflax::{lindenflax_read_line, lindenflax_reset, lindenflax_step, lindenflax_write_line};
 use second::{Answer, Memory, LINE};
 use std::io::{Read, Write};
 use std::process::{exit, Command, Stdio};
@@ -19,6 +17,122 @@ const STATE: usize = 84;
 fn fail(what: &str) -> ! {
     println!("DIFFERENT: {what}");
     exit(1)
+}
+
+/// What a program writes that gets this input in these pieces.
+fn written(program: &str, input: &[u8], mut piece: impl FnMut() -> usize) -> Vec<u8> {
+    let broken = |e: std::io::Error| -> ! { fail(&format!("{program}: {e}")) };
+    let mut child = Command::new("compare/on_x86_64").arg(program).stdin(Stdio::piped()).stdout(Stdio::piped()).spawn().unwrap_or_else(|e| broken(e));
+    let mut to = child.stdin.take().unwrap();
+    let mut from = child.stdout.take().unwrap();
+    let reader = std::thread::spawn(move || {
+        let mut out = Vec::new();
+        from.read_to_end(&mut out).map(|_| out)
+    });
+    let mut rest = input;
+    while !rest.is_empty() {
+        let n = piece().min(rest.len());
+        if to.write_all(&rest[..n]).and_then(|_| to.flush()).is_err() {
+            break;
+        }
+        rest = &rest[n..];
+    }
+    drop(to);
+    let out = reader.join().unwrap().unwrap_or_else(|e| broken(e));
+    let status = child.wait().unwrap_or_else(|e| broken(e));
+    if !status.success() {
+        fail(&format!("{program}: {status}"));
+    }
+    out
+}
+
+/// A buffer lent to the library: the length that is said of it, how many bytes each of its numbers has there, and what it holds before the call
+/// and must hold after it.
+#[derive(Debug)]
+struct Lent {
+    length: usize,
+    width: usize,
+    before: Vec<i64>,
+    after: Vec<i64>,
+}
+
+impl Lent {
+    /// One that must stay as it is.
+    fn kept(width: usize, held: &[i64]) -> Lent {
+        Lent { length: held.len(), width, before: held.to_vec(), after: held.to_vec() }
+    }
+    fn bytes<'a>(&'a self, held: &'a [i64]) -> impl Iterator<Item = u8> + 'a {
+        held.iter().flat_map(|x| x.to_le_bytes().into_iter().take(self.width))
+    }
+}
+
+/// A call of the library, under its letter in calls.c, and the number that it must return.
+#[derive(Debug)]
+struct Call {
+    letter: char,
+    scale: i64,
+    lent: Vec<Lent>,
+    number: i64,
+}
+
+impl Call {
+    fn asked(&self, out: &mut Vec<u8>) {
+        out.push(self.letter as u8);
+        out.extend(&self.scale.to_le_bytes()[..2]);
+        let four = |f: &dyn Fn(&Lent) -> usize| (0..4).flat_map(|i| (self.lent.get(i).map_or(0, f) as u32).to_le_bytes()).collect::<Vec<u8>>();
+        out.extend(four(&|b| b.length));
+        out.extend(four(&|b| b.width * b.before.len()));
+        self.lent.iter().for_each(|b| out.extend(b.bytes(&b.before)));
+    }
+    fn right(&self) -> Vec<u8> {
+        let mut out = vec![self.number as u8];
+        self.lent.iter().for_each(|b| out.extend(b.bytes(&b.after)));
+        out
+    }
+    /// What it left, as numbers: the one returned, and each buffer's.
+    fn told(&self, left: &[u8]) -> (Option<u8>, Vec<Vec<i64>>) {
+        let mut at = 1;
+        let number = |x: &[u8]| x.iter().rev().fold(if x[x.len() - 1] > 127 && x.len() > 1 { -1 } else { 0 }, |n: i64, d| n << 8 | *d as i64);
+        let buffer = |b: &Lent| {
+            let from = at.min(left.len());
+            at += b.width * b.before.len();
+            left[from..at.min(left.len())].chunks(b.width).map(number).collect()
+        };
+        (left.first().copied(), self.lent.iter().map(buffer).collect())
+    }
+}
+
+/// Calls of the library that wait to be made together.
+struct Library<'a> {
+    program: &'a str,
+    waiting: Vec<Call>,
+}
+
+impl Library<'_> {
+    fn call(&mut self, call: Call) {
+        self.waiting.push(call);
+        if self.waiting.len() == 10_000 {
+            self.make();
+        }
+    }
+    /// Makes the calls that wait, and stops at the first that left something else than it must.
+    fn make(&mut self) {
+        let mut asked = Vec::new();
+        self.waiting.iter().for_each(|c| c.asked(&mut asked));
+        let left = written(self.program, &asked, || usize::MAX);
+        let mut rest = &left[..];
+        for call in self.waiting.drain(..) {
+            let right = call.right();
+            let (got, after) = rest.split_at(right.len().min(rest.len()));
+            if got != right {
+                fail(&format!("a call of the library\n{call:?}\nleft {:?}", call.told(got)));
+            }
+            rest = after;
+        }
+        if !rest.is_empty() {
+            fail("the library left more than it was asked");
+        }
+    }
 }
 
 /// xorshift64*: the same numbers from the same seed.
@@ -49,8 +163,8 @@ impl Random {
     }
 }
 
-fn run_of(m: &Memory) -> Vec<i32> {
-    let mut r: Vec<i64> = m.rvad.to_vec();
+fn run_of(m: &Memory) -> Vec<i64> {
+    let mut r = m.rvad.to_vec();
     r.push(m.normrvad);
     r.extend(m.l_sacf);
     r.push(m.pt_sacf);
@@ -58,11 +172,10 @@ fn run_of(m: &Memory) -> Vec<i32> {
     r.extend([
         m.pt_sav0, m.lastdm, m.e_thvad, m.m_thvad, m.adaptcount, m.burstcount, m.hangcount, m.oldlagcount, m.veryoldlagcount, m.oldlag,
     ]);
-    r.iter().map(|x| *x as i32).collect()
+    r
 }
 
-fn memory_of(run: &[i32]) -> Memory {
-    let r: Vec<i64> = run.iter().map(|x| *x as i64).collect();
+fn memory_of(r: &[i64]) -> Memory {
     Memory {
         rvad: r[0..9].try_into().unwrap(),
         normrvad: r[9],
@@ -140,29 +253,27 @@ fn any_frame(r: &mut Random) -> (Vec<i64>, Vec<i64>, i64) {
 }
 
 /// The detector's step through the static library, held to the second program's.
-fn compare_step(acf: &[i64], lags: &[i64], scale: i64, m: &Memory) -> Answer {
-    let a: Vec<i32> = acf.iter().map(|x| *x as i32).collect();
-    let l: Vec<u16> = lags.iter().map(|x| *x as u16).collect();
-    let before = run_of(m);
-    let mut state = before.clone();
-    let mut answer = [-7i32; 6];
-    let number = unsafe {
-        lindenflax_step(a.as_ptr(), a.len(), l.as_ptr(), l.len(), scale as i16, state.as_mut_ptr(), STATE, answer.as_mut_ptr(), answer.len())
-    };
+fn compare_step(library: &mut Library, acf: &[i64], lags: &[i64], scale: i64, m: &Memory) -> Answer {
     let right = second::step(acf, lags, scale, m);
-    let told = [right.vad, right.vvad, right.acf0.0, right.acf0.1, right.pvad.0, right.pvad.1];
-    let same = number as i64 == right.refusal
-        && if right.refusal == 0 {
-            state == run_of(&right.next) && answer.iter().zip(told).all(|(x, y)| *x as i64 == y)
-        } else {
-            state == before && answer == [-7; 6]
-        };
-    if !same {
-        fail(&format!("a step\nframe {acf:?} lags {lags:?} scale {scale}\nstate {before:?}\nfirst: {number} {answer:?} {state:?}\nsecond: {right:?}"));
-    }
     if right.refusal == 0 && !right.next.valid() {
         fail(&format!("a step gave a state that is not valid: {:?}", right.next));
     }
+    let (state, answer) = (run_of(m), vec![-7; 6]);
+    let (next, told) = match right.refusal {
+        0 => (run_of(&right.next), vec![right.vad, right.vvad, right.acf0.0, right.acf0.1, right.pvad.0, right.pvad.1]),
+        _ => (state.clone(), answer.clone()),
+    };
+    library.call(Call {
+        letter: 'S',
+        scale,
+        lent: vec![
+            Lent::kept(4, acf),
+            Lent::kept(2, lags),
+            Lent { length: STATE, width: 4, before: state, after: next },
+            Lent { length: 6, width: 4, before: answer, after: told },
+        ],
+        number: right.refusal,
+    });
     right
 }
 
@@ -213,55 +324,40 @@ fn any_trace(r: &mut Random, lines: usize) -> Vec<u8> {
 }
 
 /// A line read through the static library into buffers of these lengths, each with one number more behind it, held to the second program's.
-fn compare_read(line: &[u8], (n, k, one): (usize, usize, usize)) -> i64 {
-    let (mut acf, mut lags, mut scale) = (vec![-7i32; n + 1], vec![7u16; k + 1], vec![-7i16; one + 1]);
-    let number = unsafe {
-        lindenflax_read_line(line.as_ptr(), line.len(), acf.as_mut_ptr(), n, lags.as_mut_ptr(), k, scale.as_mut_ptr(), one)
-    };
-    let (mut right_acf, mut right_lags, mut right_scale) = (vec![-7i64; n + 1], vec![7i64; k + 1], vec![-7i64; one + 1]);
+fn compare_read(library: &mut Library, line: &[u8], (n, k, one): (usize, usize, usize)) -> i64 {
     let right = if (n, k, one) == (9, 4, 1) { second::decode(line) } else { Err(1) };
-    let refusal = match right {
-        Ok((a, l, s)) => {
-            right_acf[..9].copy_from_slice(&a);
-            right_lags[..4].copy_from_slice(&l);
-            right_scale[0] = s;
-            0
-        }
-        Err(number) => number,
+    let number = right.as_ref().err().copied().unwrap_or(0);
+    let (acf, lags, scale) = right.unwrap_or_default();
+    let lent = |length: usize, width: usize, read: &[i64]| {
+        let before = vec![-7; length + 1];
+        let after = [read, &before[read.len()..]].concat();
+        Lent { length, width, before, after }
     };
-    let same = number as i64 == refusal
-        && acf.iter().map(|x| *x as i64).eq(right_acf)
-        && lags.iter().map(|x| *x as i64).eq(right_lags)
-        && scale.iter().map(|x| *x as i64).eq(right_scale);
-    if !same {
-        fail(&format!("a line read: {number} and not {refusal}, {acf:?} {lags:?} {scale:?}\n{}", String::from_utf8_lossy(line)));
-    }
-    refusal
+    let scale = if number == 0 { vec![scale] } else { vec![] };
+    let bytes: Vec<i64> = line.iter().map(|b| *b as i64).collect();
+    library.call(Call { letter: 'R', scale: 0, lent: vec![Lent::kept(1, &bytes), lent(n, 4, &acf), lent(k, 2, &lags), lent(one, 2, &scale)], number });
+    number
 }
 
 /// A frame written through the static library into a line of this length, with one byte more behind it, held to the line written above.
-fn compare_write(acf: &[i64], lags: &[i64], scale: i64, length: usize) -> i64 {
-    let a: Vec<i32> = acf.iter().map(|x| *x as i32).collect();
-    let l: Vec<u16> = lags.iter().map(|x| *x as u16).collect();
-    let mut line = vec![b'?'; length + 1];
-    let number = unsafe { lindenflax_write_line(a.as_ptr(), a.len(), l.as_ptr(), l.len(), scale as i16, line.as_mut_ptr(), length) };
-    let refusal = if acf.len() != 9 || lags.len() != 4 || length != LINE { 1 } else { second::frame_refusal(acf, lags, scale) };
-    let mut right = vec![b'?'; length + 1];
-    if refusal == 0 {
-        right[..LINE].copy_from_slice(&write_line(acf, lags, scale));
-        if second::decode(&right[..LINE]) != Ok((acf.to_vec(), lags.to_vec(), scale)) {
-            fail(&format!("a line does not read back: {}", String::from_utf8_lossy(&right)));
+fn compare_write(library: &mut Library, acf: &[i64], lags: &[i64], scale: i64, length: usize) -> i64 {
+    let number = if acf.len() != 9 || lags.len() != 4 || length != LINE { 1 } else { second::frame_refusal(acf, lags, scale) };
+    let before = vec![b'?' as i64; length + 1];
+    let mut after = before.clone();
+    if number == 0 {
+        let line = write_line(acf, lags, scale);
+        if second::decode(&line) != Ok((acf.to_vec(), lags.to_vec(), scale)) {
+            fail(&format!("a line does not read back: {}", String::from_utf8_lossy(&line)));
         }
+        after.splice(..LINE, line.iter().map(|b| *b as i64)).for_each(drop);
     }
-    if number as i64 != refusal || line != right {
-        fail(&format!("a line written: {number} and not {refusal}\nframe {acf:?} lags {lags:?} scale {scale}\n{}", String::from_utf8_lossy(&line)));
-    }
-    refusal
+    library.call(Call { letter: 'W', scale, lent: vec![Lent::kept(4, acf), Lent::kept(2, lags), Lent { length, width: 1, before, after }], number });
+    number
 }
 
 /// Lines and frames through the static library, right, random and refused, and buffers of every length near the right one: how many lines were
 /// read and how many of them accepted, then the same of frames written.
-fn compare_lines(r: &mut Random) -> [usize; 4] {
+fn compare_lines(library: &mut Library, r: &mut Random) -> [usize; 4] {
     let mut count = [0; 4];
     let mut tell = |at: usize, refusal: i64| {
         count[at] += 1;
@@ -273,9 +369,9 @@ fn compare_lines(r: &mut Random) -> [usize; 4] {
             1 => (0..81).map(|_| b"0123456789ABCDEF"[r.next() as usize % 16]).chain([b'\n']).collect(),
             _ => any_line(r),
         };
-        tell(0, compare_read(&line, (9, 4, 1)));
+        tell(0, compare_read(library, &line, (9, 4, 1)));
         let (acf, lags, scale) = any_frame(r);
-        tell(2, compare_write(&acf, &lags, scale, LINE));
+        tell(2, compare_write(library, &acf, &lags, scale, LINE));
     }
     // each byte of a right line as every other byte, and the line cut and lengthened
     let right = write_line(&[2147483647, -2147483647, 0, 1, -1, 9, -160, 43981, 2147483647], &[40, 120, 79, 65], 3);
@@ -283,10 +379,10 @@ fn compare_lines(r: &mut Random) -> [usize; 4] {
         for byte in 0..=255 {
             let mut line = right.clone();
             line[at] = byte;
-            tell(0, compare_read(&line, (9, 4, 1)));
+            tell(0, compare_read(library, &line, (9, 4, 1)));
         }
-        tell(0, compare_read(&right[..at], (9, 4, 1)));
-        tell(0, compare_read(&[&right[..], &right[..at + 1]].concat(), (9, 4, 1)));
+        tell(0, compare_read(library, &right[..at], (9, 4, 1)));
+        tell(0, compare_read(library, &[&right[..], &right[..at + 1]].concat(), (9, 4, 1)));
     }
     // buffers of other lengths, for a frame that is right and one that is refused
     for (first, scale, lag) in [(1, 0, 40), (-1, 0, 40), (1, 5, 40), (1, 4, 121)] {
@@ -295,11 +391,11 @@ fn compare_lines(r: &mut Random) -> [usize; 4] {
         for n in 0..12 {
             for k in 0..7 {
                 for one in 0..4 {
-                    tell(0, compare_read(&line, (n, k, one)));
-                    tell(0, compare_read(&line[1..], (n, k, one)));
+                    tell(0, compare_read(library, &line, (n, k, one)));
+                    tell(0, compare_read(library, &line[1..], (n, k, one)));
                 }
                 for length in [0, 1, 72, 81, 82, 83, 200] {
-                    tell(2, compare_write(&frame(n), &vec![lag; k], scale, length));
+                    tell(2, compare_write(library, &frame(n), &vec![lag; k], scale, length));
                 }
             }
         }
@@ -308,7 +404,7 @@ fn compare_lines(r: &mut Random) -> [usize; 4] {
 }
 
 /// Steps from states that were changed by hand, most of them not valid: how many, and how many were refused with 5.
-fn compare_changed(r: &mut Random) -> [usize; 2] {
+fn compare_changed(library: &mut Library, r: &mut Random) -> [usize; 2] {
     let mut count = [0; 2];
     let mut tell = |refusal: i64| {
         count[0] += 1;
@@ -316,85 +412,54 @@ fn compare_changed(r: &mut Random) -> [usize; 2] {
     };
     let (acf, lags) = ([1i64, 0, 0, 0, 0, 0, 0, 0, 0], [40i64; 4]);
     for i in 0..STATE {
-        for x in [i32::MIN, -536870913, -100000, -33, -1, 1, 28, 100000, 536870912, i32::MAX] {
+        for x in [-2147483648, -536870913, -100000, -33, -1, 1, 28, 100000, 536870912, 2147483647] {
             let mut run = run_of(&Memory::reset());
             run[i] = x;
-            tell(compare_step(&acf, &lags, 0, &memory_of(&run)).refusal);
+            tell(compare_step(library, &acf, &lags, 0, &memory_of(&run)).refusal);
         }
     }
     for _ in 0..100_000 {
         let mut run = run_of(&any_state(r));
         for _ in 0..r.from(1, 3) {
             let i = r.from(0, STATE as i64 - 1) as usize;
-            run[i] = match r.next() % 4 {
-                0 => run[i].wrapping_add(r.from(-2, 2) as i32),
-                1 => run[i].wrapping_add(r.from(-1, 1) as i32 * 65536),
-                2 => r.from(-130, 130) as i32,
-                _ => r.next() as i32,
+            let x = match r.next() % 4 {
+                0 => run[i] + r.from(-2, 2),
+                1 => run[i] + r.from(-1, 1) * 65536,
+                2 => r.from(-130, 130),
+                _ => r.next() as i64,
             };
+            run[i] = x as i32 as i64;
         }
         let (acf, lags, scale) = any_frame(r);
-        tell(compare_step(&acf, &lags, scale, &memory_of(&run)).refusal);
+        tell(compare_step(library, &acf, &lags, scale, &memory_of(&run)).refusal);
     }
     count
 }
 
 /// Resets and steps with buffers of other lengths, each with one number more behind it: how many.
-fn compare_lengths() -> usize {
+fn compare_lengths(library: &mut Library) -> usize {
     let mut count = 0;
+    let reset = run_of(&Memory::reset());
     for n in 0..100 {
-        let mut state = vec![9i32; n + 1];
-        let number = unsafe { lindenflax_reset(state.as_mut_ptr(), n) };
-        let mut right = vec![9i32; n + 1];
-        if n == STATE {
-            right[..STATE].copy_from_slice(&run_of(&Memory::reset()));
-        }
-        if number != (n != STATE) as u8 || state != right {
-            fail(&format!("a reset of {n} numbers: {number} {state:?}"));
-        }
+        let before = vec![9; n + 1];
+        let after = if n == STATE { [&reset[..], &[9]].concat() } else { before.clone() };
+        library.call(Call { letter: 'Z', scale: 0, lent: vec![Lent { length: n, width: 4, before, after }], number: (n != STATE) as i64 });
         count += 1;
     }
-    let (acf, lags) = ([1i32, 0, 0, 0, 0, 0, 0, 0, 0, 0, 0], [40u16; 6]);
     for first in [24576, 0] {
-        let mut before = run_of(&Memory::reset());
-        before[0] = first;
-        before.extend([0; 2]);
+        let mut state = [&reset[..], &[0, 0]].concat();
+        state[0] = first;
         for (a, l, s, k) in (0..11 * 6 * 86 * 8).map(|i| (i % 11, i / 11 % 6, i / 66 % 86, i / 5676)) {
             if (a, l, s, k) == (9, 4, STATE, 6) {
                 continue;
             }
-            let (mut state, mut answer) = (before.clone(), [-7i32; 8]);
-            let number = unsafe { lindenflax_step(acf.as_ptr(), a, lags.as_ptr(), l, 0, state.as_mut_ptr(), s, answer.as_mut_ptr(), k) };
-            if number != 1 || state != before || answer != [-7; 8] {
-                fail(&format!("a step of {a} numbers, {l} lags, {s} numbers of state and {k} of answer: {number}"));
-            }
+            let said = |length: usize, width: usize, held: &[i64]| Lent { length, ..Lent::kept(width, held) };
+            let lent = vec![said(a, 4, &[1, 0, 0, 0, 0, 0, 0, 0, 0, 0, 0]), said(l, 2, &[40; 6]), said(s, 4, &state), said(k, 4, &[-7; 8])];
+            library.call(Call { letter: 'S', scale: 0, lent, number: 1 });
             count += 1;
         }
     }
     count
-}
-
-/// What the program writes for a trace that comes in pieces.
-fn program(path: &str, trace: &[u8], r: &mut Random) -> Vec<u8> {
-    let mut child = Command::new(path).stdin(Stdio::piped()).stdout(Stdio::piped()).spawn().unwrap_or_else(|e| fail(&format!("{path}: {e}")));
-    let mut to = child.stdin.take().unwrap();
-    let mut from = child.stdout.take().unwrap();
-    let reader = std::thread::spawn(move || {
-        let mut out = Vec::new();
-        from.read_to_end(&mut out).map(|_| out)
-    });
-    let mut rest = trace;
-    while !rest.is_empty() {
-        let n = (r.from(1, 70000) as usize).min(rest.len());
-        if to.write_all(&rest[..n]).and_then(|_| to.flush()).is_err() {
-            break;
-        }
-        rest = &rest[n..];
-    }
-    drop(to);
-    let out = reader.join().unwrap().unwrap_or_else(|e| fail(&format!("{path}: {e}")));
-    child.wait().unwrap_or_else(|e| fail(&format!("{path}: {e}")));
-    out
 }
 
 /// Line by line, so that the first difference is named with its line of input.
@@ -410,22 +475,22 @@ fn held(what: &str, trace: &[u8], got: &[u8], right: &[u8]) {
 
 fn main() {
     let args: Vec<String> = std::env::args().collect();
-    if args.len() != 4 {
-        eprintln!("usage: harness RUN_TRACE TRACES SEED");
+    if args.len() != 5 {
+        eprintln!("usage: harness RUN_TRACE CALLS TRACES SEED");
         exit(2);
     }
-    let seed: u64 = args[3].parse().expect("a number");
+    let seed: u64 = args[4].parse().expect("a number");
     let mut r = Random(seed | 1);
 
     // the traces of the repository: both programs, and the answers that are kept
     let (mut traces, mut lines) = (0, 0);
-    let mut names: Vec<_> = std::fs::read_dir(&args[2]).expect("the folder of traces").map(|e| e.unwrap().path()).collect();
+    let mut names: Vec<_> = std::fs::read_dir(&args[3]).expect("the folder of traces").map(|e| e.unwrap().path()).collect();
     names.sort();
     for path in names.iter().filter(|p| p.extension().map_or(false, |e| e == "trace")) {
         let trace = std::fs::read(path).unwrap();
         let kept = std::fs::read(path.with_extension("expected")).unwrap();
         held(&format!("{} (second program)", path.display()), &trace, &second::run(&trace), &kept);
-        held(&format!("{}", path.display()), &trace, &program(&args[1], &trace, &mut r), &kept);
+        held(&format!("{}", path.display()), &trace, &written(&args[1], &trace, || r.from(1, 70000) as usize), &kept);
         traces += 1;
         lines += kept.len() / 4;
     }
@@ -437,18 +502,19 @@ fn main() {
         for _ in 0..4 {
             let trace = any_trace(&mut r, n);
             let right = second::run(&trace);
-            held("random lines", &trace, &program(&args[1], &trace, &mut r), &right);
+            held("random lines", &trace, &written(&args[1], &trace, || r.from(1, 70000) as usize), &right);
             random += right.len() / 4;
         }
     }
     println!("{random} random and damaged lines");
 
     // random valid states and frames, one step each, and runs of them
+    let library = &mut Library { program: &args[2], waiting: Vec::new() };
     let mut steps = 0;
     for _ in 0..400_000 {
         let m = any_state(&mut r);
         let (acf, lags, scale) = any_frame(&mut r);
-        compare_step(&acf, &lags, scale, &m);
+        compare_step(library, &acf, &lags, scale, &m);
         steps += 1;
     }
     for _ in 0..2_000 {
@@ -460,16 +526,21 @@ fn main() {
             if !quiet && r.one_in(10) {
                 acf = any_frame(&mut r).0;
             }
-            m = compare_step(&acf, &lags, scale, &m).next;
+            m = compare_step(library, &acf, &lags, scale, &m).next;
             steps += 1;
         }
     }
+    library.make();
     println!("{steps} steps from random states");
 
-    let [changed, refused] = compare_changed(&mut r);
+    let [changed, refused] = compare_changed(library, &mut r);
+    library.make();
     println!("{changed} steps from changed states, {refused} of them refused as not valid");
-    println!("{} resets and steps with buffers of other lengths", compare_lengths());
-    let [read, accepted, written, right] = compare_lines(&mut r);
+    let lengths = compare_lengths(library);
+    library.make();
+    println!("{lengths} resets and steps with buffers of other lengths");
+    let [read, accepted, written, right] = compare_lines(library, &mut r);
+    library.make();
     println!("{read} lines read through the library, {accepted} of them accepted, and {written} frames written, {right} of them accepted");
     println!("no difference (seed {seed})");
 }
