@@ -62,6 +62,14 @@ impl Lent {
         Lent { length: held.len(), width, before: held.to_vec(), after: held.to_vec() }
     }
     fn bytes<'a>(&'a self, held: &'a [i64]) -> impl Iterator<Item = u8> + 'a {
+        let fits = match self.width {
+            1 => 0..=255,
+            2 => -32768..=65535,
+            _ => -2147483648..=2147483647,
+        };
+        if let Some(x) = held.iter().find(|x| !fits.contains(*x)) {
+            fail(&format!("{x} does not fit its buffer\n{self:?}"));
+        }
         held.iter().flat_map(|x| x.to_le_bytes().into_iter().take(self.width))
     }
 }
