@@ -4,3 +4,4 @@ pub mod Decision
 pub mod Reported
 pub mod Meets
 pub mod Idle
+pub mod Lines
