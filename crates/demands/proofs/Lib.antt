@@ -5,3 +5,4 @@ pub mod Reported
 pub mod Meets
 pub mod Idle
 pub mod Lines
+pub mod Covered

@@ -3,3 +3,4 @@ pub mod Demands
 pub mod Worked
 pub mod Sums
 pub mod Idle
+pub mod Covered
