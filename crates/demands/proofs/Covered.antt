@@ -135,7 +135,13 @@ clause-6-4 L-av0 L-temp normrav1 l m b =
       shift-temp = m .not-negative;
       by-shift = norm-amount L-temp;
       below = λ t. let i = top-range L-temp m in record { not-negative = i .0; not-above = omega zarith };
-      above = λ t. differ t;
+      above = λ t.
+          let x = tempOf L-temp in
+          let y = divisorOf L-av0 in
+          let i = top-range L-temp m in
+          let j = divisor-range L-av0 l in
+          let s = sub-parts x y (omega (zarith, minus x y)) in
+          record { not-negative = omega zarith; not-above = omega zarith };
       by-normrav1 = b;
     }
   where
@@ -145,15 +151,6 @@ clause-6-4 L-av0 L-temp normrav1 l m b =
         let h = norm-amount (at L-av0 0) in
         let s = sub-parts n (pos 3) (omega (zarith, minus n (pos 3), h .from, h .to)) in
         record { from = omega (zarith, h .from); to = omega (zarith, h .to) }
-
-    differ : leZ (tempOf L-temp) (divisorOf L-av0) ≡ false → Divides (sub (tempOf L-temp) (divisorOf L-av0)) (divisorOf L-av0)
-    differ t =
-        let x = tempOf L-temp in
-        let y = divisorOf L-av0 in
-        let i = top-range L-temp m in
-        let j = divisor-range L-av0 l in
-        let s = sub-parts x y (omega (zarith, minus x y)) in
-        record { not-negative = omega zarith; not-above = omega zarith }
 
 -- ---- 6.6
 fitted : (x : ℤ) → (pos 0 ≤ℤ x) × (x ≤ℤ pos 65535) → Fitted x

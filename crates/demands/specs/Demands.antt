@@ -1,8 +1,9 @@
 -- The three demands on the detector, with the table, the clauses and the distance of document 01. Read this file first. Each record below is one
--- demand, a statement about an answer and about what each lent buffer holds afterwards; proofs/Meets.antt proves it of what the functions promise
--- for every input (their `ensures`): of `stepOf`, which is what `detector::step` answers, and of what `lines::read` and `lines::write` answer and
--- leave. That every call ends and that nothing overflows is what the toolchain proves of every function; a buffer that is lent for reading only is
--- not written by any call. Assumes nothing.
+-- demand, a statement about an answer and about what each lent buffer holds afterwards. proofs/Meets.antt and proofs/Lines.antt prove it of what
+-- the functions promise for every input (their `ensures`): of `stepOf`, which is what `detector::step` answers, and of what `lines::read` and
+-- `lines::write` answer and leave. That every call ends and that nothing overflows is what the toolchain proves of every function; a buffer that is
+-- lent for reading only is not written by any call. Beside this file: Case (document 01's whole case, from bytes to bytes), Covered (what was
+-- decided where document 01 is silent is never met), Sums (its sums done by hand), Idle (its idle programs). Assumes nothing.
 use mathlib.Core.Path.{_≡_}
 use mathlib.Core.Bool.{true, false, _&&_}
 use mathlib.Core.List.{List}

@@ -4,3 +4,4 @@ pub mod Worked
 pub mod Sums
 pub mod Idle
 pub mod Covered
+pub mod Case
