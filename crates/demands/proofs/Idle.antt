@@ -93,7 +93,7 @@ zeros-fit zero k = record { sfits = omega arith }
 zeros-fit (suc n) zero = record { sfits = omega arith }
 zeros-fit (suc n) (suc k) = zeros-fit n k
 
-numbers : (n : ℕ) → n < 2 ^ 31 → Numbers (acf (pos n) (pos 0))
+pub numbers : (n : ℕ) → n < 2 ^ 31 → Numbers (acf (pos n) (pos 0))
 numbers n h zero = record { sfits = h }
 numbers n h (suc k) = zeros-fit 8 k
 

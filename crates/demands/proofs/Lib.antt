@@ -4,3 +4,5 @@ pub mod Decision
 pub mod Reported
 pub mod Meets
 pub mod Idle
+pub mod Lines
+pub mod Covered

@@ -1,5 +1,5 @@
--- The step meets the three demands of specs/Demands.antt; a reset state is one that they speak of; and a caller has them of what the function
--- `detector::step` answers. Assumes nothing.
+-- The step meets the three demands of specs/Demands.antt on a frame; a reset state is one that they speak of; and a caller has them of what the
+-- function `detector::step` answers. Those on lines are met in Lines.antt. Assumes nothing.
 use mathlib.Core.Path.{_≡_, refl, sym, _∙_, subst}
 use mathlib.Core.Bool.{true}
 use mathlib.Core.List.{List}

@@ -1,13 +1,17 @@
--- The three demands on the detector, with the table, the clauses and the distance of document 01. Read this file first: each record below is one
--- demand, a statement about `stepOf`, which is what the function `detector::step` promises to answer for every input (its `ensures`). The proofs
--- stand in proofs/. That every call ends and that nothing overflows is what the toolchain proves of every function; the lent buffers are lent for
--- reading only, so no call writes to them. Assumes nothing.
+-- The three demands on the detector, with the table, the clauses and the distance of document 01. Read this file first. Each record below is one
+-- demand, a statement about an answer and about what each lent buffer holds afterwards. proofs/Meets.antt and proofs/Lines.antt prove it of what
+-- the functions promise for every input (their `ensures`): of `stepOf`, which is what `detector::step` answers, and of what `lines::read` and
+-- `lines::write` answer and leave. That every call ends and that nothing overflows is what the toolchain proves of every function; a buffer that is
+-- lent for reading only is not written by any call. Beside this file: Case (document 01's whole case, from bytes to bytes), Covered (what was
+-- decided where document 01 is silent is never met), Sums (its sums done by hand), Idle (its idle programs). Assumes nothing.
 use mathlib.Core.Path.{_≡_}
-use mathlib.Core.Bool.{true, false}
+use mathlib.Core.Bool.{true, false, _&&_}
 use mathlib.Core.List.{List}
 use mathlib.Core.Logic.{_↔_}
 use Prim.Native.Nat.{ℕ, suc, _+_, _^_, _≤_}
+use lib.Dec.{eqb}
 use lib.IntN.{ℤ, pos, _+ℤ_, _-ℤ_, _*ℤ_}
+use lib.ListN.{length}
 use lib.Signed.{_≤ℤ_, _<ℤ_}
 use Rattle.numbers.specs.Sum.{at, sum}
 use Rattle.operations.specs.Operations.{L-mult}
@@ -20,6 +24,9 @@ use Rattle.state.specs.Valid.{validOf, Shaped}
 use Rattle.detector.specs.declared.Answer.{Answer}
 use Rattle.detector.specs.Refusal.{lengthsOk, scaleOk, acfOk, lagsOk}
 use Rattle.detector.specs.Step.{acceptedOf}
+use Rattle.lines.specs.Line.{Frame, frameOf, formedOf}
+use Rattle.lines.specs.Answers.{readOf, acfAfter, lagsAfter, writeOf, lineAfter}
+use Rattle.lines.specs.declared.Heading.{Heading}
 use Rattle.demands.specs.Distance.{EOf, LOf, aOf, pOf, distanceOf, smallOf, energyUnits, distanceUnits, pairUnits}
 
 -- ---- 1. "A bad buffer, scale, autocorrelation, lag or state is refused with the number in document 01. A refusal hands back the state it got."
@@ -34,11 +41,45 @@ pub record Demand1 (L-ACF : List ℤ) (lags : List ℕ) (scalvad : ℤ) (s : Sta
   pub no-energy : (r .refusal ≡ 0 → ⊥) → (r .acf0 ≡ pair (pos 0) (pos 0)) × (r .pvad ≡ pair (pos 0) (pos 0))
   pub as-given : (r .refusal ≡ 0 → ⊥) → r .next ≡ s
 
+-- the same for a line `l` to read into lent numbers and lags, which hold `acf′` and `lags′` afterwards: "1, 6, 2, 3, 4", and "a refused line to read
+-- leaves the lent numbers and lags unchanged and answers scale 0"
+pub record ReadDemand1 (acf : List ℤ) (lags l : List ℕ) (r : Heading) (acf′ : List ℤ) (lags′ : List ℕ) : Type 0 where
+  pub number-1 : (r .refusal ≡ 1) ↔ (lengthsOk acf lags ≡ false)
+  pub number-6 : (r .refusal ≡ 6) ↔ ((lengthsOk acf lags ≡ true) × (formedOf l ≡ false))
+  pub number-2 : (r .refusal ≡ 2) ↔ ((lengthsOk acf lags ≡ true) × (formedOf l ≡ true) × (scaleOk (frameOf l .scale) ≡ false))
+  pub number-3 : (r .refusal ≡ 3) ↔ ((lengthsOk acf lags ≡ true) × (formedOf l ≡ true) × (scaleOk (frameOf l .scale) ≡ true) × (acfOk (frameOf l .acf) ≡ false))
+  pub number-4 : (r .refusal ≡ 4)
+      ↔ ((lengthsOk acf lags ≡ true) × (formedOf l ≡ true) × (scaleOk (frameOf l .scale) ≡ true) × (acfOk (frameOf l .acf) ≡ true) × (lagsOk (frameOf l .lags) ≡ false))
+  pub number-0 : (r .refusal ≡ 0)
+      ↔ ((lengthsOk acf lags ≡ true) × (formedOf l ≡ true) × (scaleOk (frameOf l .scale) ≡ true) × (acfOk (frameOf l .acf) ≡ true) × (lagsOk (frameOf l .lags) ≡ true))
+  pub no-scale : (r .refusal ≡ 0 → ⊥) → r .scale ≡ pos 0
+  pub as-lent : (r .refusal ≡ 0 → ⊥) → (acf′ ≡ acf) × (lags′ ≡ lags)
+
+-- and for a frame `f` to write into a lent line `l`, which holds `l′` afterwards: "1, 2, 3, 4", and "a refused line to write leaves its 82 bytes
+-- unchanged". `n` is the answer
+pub record WriteDemand1 (f : Frame) (l : List ℕ) (n : ℕ) (l′ : List ℕ) : Type 0 where
+  pub number-1 : (n ≡ 1) ↔ (lengthsOk (f .acf) (f .lags) && eqb (length l) 82 ≡ false)
+  pub number-2 : (n ≡ 2) ↔ ((lengthsOk (f .acf) (f .lags) && eqb (length l) 82 ≡ true) × (scaleOk (f .scale) ≡ false))
+  pub number-3 : (n ≡ 3) ↔ ((lengthsOk (f .acf) (f .lags) && eqb (length l) 82 ≡ true) × (scaleOk (f .scale) ≡ true) × (acfOk (f .acf) ≡ false))
+  pub number-4 : (n ≡ 4) ↔ ((lengthsOk (f .acf) (f .lags) && eqb (length l) 82 ≡ true) × (scaleOk (f .scale) ≡ true) × (acfOk (f .acf) ≡ true) × (lagsOk (f .lags) ≡ false))
+  pub number-0 : (n ≡ 0) ↔ ((lengthsOk (f .acf) (f .lags) && eqb (length l) 82 ≡ true) × (scaleOk (f .scale) ≡ true) × (acfOk (f .acf) ≡ true) × (lagsOk (f .lags) ≡ true))
+  pub as-lent : (n ≡ 0 → ⊥) → l′ ≡ l
+
 -- ---- 2. "For every accepted frame the flags, both energies and the whole next state are those of clauses 6.1 to 6.9", and a step keeps validity.
 pub record Demand2 (L-ACF : List ℤ) (lags : List ℕ) (scalvad : ℤ) (s : State) (r : Answer) : Type 0 where
   pub clauses : r .refusal ≡ 0 → r ≡ acceptedOf L-ACF lags scalvad s
   pub kept : validOf s ≡ true → validOf (r .next) ≡ true
   pub shaped : validOf s ≡ true → Shaped (r .next)
+
+-- the same for lines. An accepted line leaves its frame; and that frame, written into any 82 bytes, is accepted and gives the same bytes
+pub record ReadDemand2 (l : List ℕ) (r : Heading) (acf′ : List ℤ) (lags′ : List ℕ) : Type 0 where
+  pub frame : r .refusal ≡ 0 → record { acf = acf′; scale = r .scale; lags = lags′ } ≡ frameOf l
+  pub same-bytes : r .refusal ≡ 0 → (o : List ℕ) → length o ≡ 82 → (writeOf (frameOf l) o ≡ 0) × (lineAfter (frameOf l) o ≡ l)
+
+-- what is written reads back as its frame, into any nine numbers and four lags
+pub record WriteDemand2 (f : Frame) (n : ℕ) (l′ : List ℕ) : Type 0 where
+  pub reads-back : n ≡ 0 → (acf : List ℤ) (lags : List ℕ) → lengthsOk acf lags ≡ true
+      → (readOf acf lags l′ ≡ record { refusal = 0; scale = f .scale }) × (acfAfter acf lags l′ ≡ f .acf) × (lagsAfter acf lags l′ ≡ f .lags)
 
 -- ---- 3. "The filter sum never saturates, and the reported energy lies within a stated distance of the exact one; so the raw decision is right
 -- outside that distance." For an accepted frame with energy: L_ACF[0] above 0. The filter and normrvad are those at entry; the threshold in force is

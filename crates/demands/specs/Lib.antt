@@ -3,3 +3,5 @@ pub mod Demands
 pub mod Worked
 pub mod Sums
 pub mod Idle
+pub mod Covered
+pub mod Case
