@@ -62,7 +62,8 @@ pub record Clause-6-2 (scalvad : ℤ) (ptsacf ptsav0 : ℕ) : Type 0 where
   pub sacf-at : inside LAST-SACF ptsacf ≡ ptsacf
   pub sav0-at : inside LAST-SAV0 ptsav0 ≡ ptsav0
 
--- ---- 6.3.1. The recursion with any division in the place of `div`: word for word that of crates/predictor/specs/Schur.antt
+-- ---- 6.3.1. The recursion of crates/predictor/specs/Schur.antt with any division in the place of `div`. With `div` it is the clause's:
+-- `same-recursion` in proofs/Covered.antt
 module _ (division : ℤ → ℤ → ℤ) where
   unfoldable pub coefficientBy : ℤ → ℤ → ℤ
   coefficientBy P0 P1 = let q = division (abs P1) P0 in IF ltZ (pos 0) P1 THEN sub (pos 0) q ELSE q
