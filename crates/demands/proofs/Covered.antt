@@ -15,7 +15,7 @@ use Rattle.numbers.specs.Sum.{at, total}
 use Rattle.numbers.specs.Clamp.{clamp}
 use Rattle.numbers.specs.Floor.{residue}
 use Rattle.numbers.specs.Wrap.{wrap}
-use Rattle.numbers.proofs.Parts.{zarith, same, le-true, plus, minus, times}
+use Rattle.numbers.proofs.Parts.{zarith, of, sign, same, le-true, plus, minus, times}
 use Rattle.operations.specs.Operations.{add, sub, L-add, abs, short, norm, div, shiftLeft, shiftRight, _<<_, _>>_, _<<ₛ_}
 use Rattle.operations.proofs.Laws.{left-exact, short-exact, L-add-fits}
 use Rattle.operations.proofs.Exact.{sub-parts, L-add-parts, right-parts}
@@ -37,9 +37,10 @@ use Rattle.predictor.specs.Schur as schur
 use Rattle.predictor.specs.Schur.{Arrays, KOf, leavesOf, coefficientOf, outerFrom, schurOf, vparOf}
 use Rattle.predictor.specs.StepUp.{aav1Of}
 use Rattle.predictor.specs.Filter.{predictedOf}
+use Rattle.predictor.specs.declared.Filter.{Filter}
 use Rattle.predictor.proofs.Predictor.{aav1-first, aav1-small}
 use Rattle.predictor.proofs.Autocorrelation.{work-first-in, norm-is, norm-in}
-use Rattle.predictor.proofs.Bounds.{predicted-whitening}
+use Rattle.predictor.proofs.Bounds.{Whitening, predicted-whitening}
 use Rattle.threshold.specs.Threshold.{PTH, MARGIN}
 use Rattle.state.specs.declared.State.{State}
 use Rattle.state.specs.Valid.{within, pointerOk, sacfWithin, sacfOk, sav0Ok, weightOf, rvadOk, thvadOk, lagOk, countsOk, validOf, Between, Shaped, resetOf}
@@ -47,10 +48,10 @@ use Rattle.detector.specs.Refusal.{lengthsOk, scaleOk, acfOk, lagsOk, frameRefu
 use Rattle.detector.proofs.Keeps.{Numbers, accepted, kind, filter-ok, incoming, frames-was, frames-at-was, sums-was, sums-at-was}
 use Rattle.demands.specs.Worked.{acf, forty}
 use Rattle.demands.specs.Idle.{quiet}
-use Rattle.demands.specs.Covered.{Divides, Clause-6-1, Clause-6-2, coefficientBy, outerBy, schurBy, vparBy, Clause-6-3-1, Clause-6-3-3, tempOf, divisorOf, Clause-6-4, Fitted, Clause-6-6, Covered}
+use Rattle.demands.specs.Covered.{Divides, Clause-6-1, Clause-6-2, coefficientBy, outerBy, schurBy, vparBy, Clause-6-3-1, Clause-6-3-2, Clause-6-3-3, tempOf, divisorOf, Clause-6-4, Fitted, Clause-6-6, Covered}
 use Rattle.demands.proofs.Meets.{reset-meets}
 use Rattle.demands.proofs.Idle.{numbers}
-use Rattle.predictor.proofs.Division.{abs-some, stays}
+use Rattle.predictor.proofs.Division.{abs-some, stays, vpar-fits}
 use Rattle.spectrum.proofs.Divisor.{Long, long, temp-long, top-range, sav0-eight, divisor-range}
 use Rattle.threshold.proofs.Assigned.{right-far, short-half, short-whole, lowered-twice, lowered-mantissa, tripled-in, added-in}
 
@@ -116,6 +117,14 @@ clause-6-3-1 : (L-av1 : List ℤ) → pos 0 ≤ℤ at L-av1 0 → Clause-6-3-1 L
 clause-6-3-1 L-av1 h =
     record { temp = h; by-temp = norm-amount (at L-av1 0); vpar = divides; any-division = λ division alike. vpar-alike division alike L-av1 }
 
+-- ---- 6.3.2
+clause-6-3-2 : (vpar : List ℤ) → ((k : ℕ) → SFits w16 (at vpar k)) → Clause-6-3-2 vpar
+clause-6-3-2 vpar fits =
+    record {
+      first = left-exact w32 (pos 16384) 15 (record { sfits = omega arith });
+      each = λ m. let z = at vpar m in left-exact w32 z 14 (omega (zarith, times z (pos 16384), of z, sign z, fits m .sfits));
+    }
+
 -- ---- 6.3.3, of any coefficients
 clause-6-3-3 : (vpar : List ℤ) → Clause-6-3-3 (row 9 (aav1Of vpar))
 clause-6-3-3 vpar =
@@ -126,8 +135,8 @@ clause-6-3-3 vpar =
     record { normrav1 = omega (zarith, work-first-in a i j .0); by-normrav1 = rw (norm-is a i j) (record { from = omega zarith; to = omega zarith }) }
 
 -- ---- 6.4
-clause-6-4 : (L-av0 : List ℤ) (L-temp normrav1 : ℤ) → Long (at L-av0 0) → Long L-temp → Between (pos 2) (pos 9) normrav1 → Clause-6-4 L-av0 L-temp normrav1
-clause-6-4 L-av0 L-temp normrav1 l m b =
+clause-6-4 : (L-av0 : List ℤ) (L-temp : ℤ) (f : Filter) → Long (at L-av0 0) → Long L-temp → Whitening f → Clause-6-4 L-av0 L-temp f
+clause-6-4 L-av0 L-temp f l m w =
     record {
       shift-av0 = l .not-negative;
       by-shift-3 = less;
@@ -142,7 +151,8 @@ clause-6-4 L-av0 L-temp normrav1 l m b =
           let j = divisor-range L-av0 l in
           let s = sub-parts x y (omega (zarith, minus x y)) in
           record { not-negative = omega zarith; not-above = omega zarith };
-      by-normrav1 = b;
+      rav1-first = let z = at (f .rav1) 0 in left-exact w32 z 11 (omega (zarith, times z (pos 2048), w .lo, w .hi));
+      by-normrav1 = record { from = w .norm-lo; to = w .norm-hi };
     }
   where
     less : Between (negsuc 2) (pos 27) (sub (norm (at L-av0 0)) (pos 3))
@@ -204,14 +214,14 @@ covered L-ACF lags scalvad s fits shape none =
     let a = average-keeps L-ACF scalvad (s .sacf) (s .ptsacf) (s .sav0) (s .ptsav0) (incoming L-ACF lags scalvad s fits shape ok) (frames-was s shape v) (frames-at-was s shape v) (sums-was s shape v) (sums-at-was s shape v) in
     let L-av0 = averageOf L-ACF scalvad (s .sacf) (s .ptsacf) (s .sav0) (s .ptsav0) .av0 in
     let L-av1 = averageOf L-ACF scalvad (s .sacf) (s .ptsacf) (s .sav0) (s .ptsav0) .av1 in
-    let f = predicted-whitening L-av1 in
     record {
       c-6-1 = λ h.
           ⊎-elim (λ e. absurd (omega (zarith, same e))) (λ g. clause-6-1 L-ACF scalvad (s .rvad) g (ok .scale)) (kind L-ACF lags scalvad s fits shape ok);
       c-6-2 = clause-6-2 scalvad (s .ptsacf) (s .ptsav0) (ok .scale) (v .ptsacf-last) (v .ptsav0-last);
       c-6-3-1 = clause-6-3-1 L-av1 (a .av1-first);
+      c-6-3-2 = clause-6-3-2 (vparOf L-av1) (vpar-fits L-av1);
       c-6-3-3 = clause-6-3-3 (vparOf L-av1);
-      c-6-4 = clause-6-4 L-av0 _ _ (long (at L-av0 0) (a .av0-first) (average-fits L-ACF scalvad (s .sacf) (s .ptsacf) (s .sav0) (s .ptsav0))) (temp-long (predictedOf L-av1 .rav1) L-av0) (record { from = f .norm-lo; to = f .norm-hi });
+      c-6-4 = clause-6-4 L-av0 _ _ (long (at L-av0 0) (a .av0-first) (average-fits L-ACF scalvad (s .sacf) (s .ptsacf) (s .sav0) (s .ptsav0))) (temp-long (predictedOf L-av1 .rav1) L-av0) (predicted-whitening L-av1);
       c-6-6 = λ t.
           clause-6-6 (s .thvad) _ (record { low = v .mantissa .from; high = v .mantissa .to })
           (energy-loud L-ACF scalvad (s .rvad) (s .normrvad) (kind L-ACF lags scalvad s fits shape ok) (ok .scale .from) (ok .scale .to)

@@ -2,7 +2,7 @@
 -- `lines::write` has them. Assumes nothing.
 use mathlib.Core.Path.{_≡_, refl, sym, ap, _∙_, subst}
 use mathlib.Core.Bool.{Bool, true, false, _&&_}
-use mathlib.Core.List.{List}
+use mathlib.Core.List.{List, []}
 use mathlib.Core.Logic.{_↔_}
 use Prim.Native.Nat.{ℕ, zero, suc}
 use native.Mathlib.Omega.{arith}
@@ -193,7 +193,7 @@ pub record Written (f : Frame) (l : List ℕ) (n : ℕ) (l′ : List ℕ) : Type
 pub write-caller : (f : Frame) (l : List ℕ) (n : ℕ) (l′ : List ℕ) → n ≡ writeOf f l → l′ ≡ lineAfter f l → Numbers (f .acf) → Written f l n l′
 write-caller f l n l′ e p fits = rw (e, p) (record { first = write-demand-1 f l; second = write-demand-2 f l fits })
 
--- ---- document 01's line is read, into any nine numbers and four lags, and its frame is written, into any 82 bytes
+-- ---- lines that the demands speak of: document 01's is read and its frame is written, and no numbers and no bytes are refused
 pub line-is-read : readOf (replicate 9 (pos 0)) (replicate 4 0) line .refusal ≡ 0
 unfolding lengthsOk headingOf
 line-is-read = ap (λ (h : Heading). h .refusal) (read-sized (replicate 9 (pos 0)) (replicate 4 0) line refl) ∙ ap (λ (d : Decoded). d .refusal) decodes
@@ -201,3 +201,7 @@ line-is-read = ap (λ (h : Heading). h .refusal) (read-sized (replicate 9 (pos 0
 pub frame-is-written : (writeOf frame (replicate 82 0) ≡ 0) × Numbers (frame .acf)
 unfolding frame writeOf rangesOf lengthsOk frameRefusalOf scaleOk acfOk lagsOk within lagOk all IF_THEN_ELSE_
 frame-is-written = (refl, numbers 1 (omega arith))
+
+pub none-is-refused : (readOf [] [] line .refusal ≡ 1) × (writeOf frame [] ≡ 1)
+unfolding frame readOf headingOf refusedOf writeOf lengthsOk IF_THEN_ELSE_
+none-is-refused = (refl, refl)

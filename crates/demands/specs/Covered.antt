@@ -1,10 +1,10 @@
 -- What was decided where document 01 is silent (docs/DECISIONS.md) is never met: in an accepted frame from a valid state, clauses 6.1 to 6.9 use an
 -- operation only where document 01 says what it gives. So a reader who would have decided otherwise has the same answers. A record for each clause,
 -- in the clause's order, with a field for each division, each norm, each shift whose amount is not written out, each shift to the left of a short
--- variable, and each assignment of a long variable to a short one (`short`). 6.3.2, 6.5, 6.7 and 6.8 have none of these. The amounts that the
--- clauses write out are below the width: 1, 11, 14, 15, 16 and 19 of 32 bits, 1, 3, 4 and 5 of 16. What document 01 decides itself is no field:
--- that sums and differences saturate, that a shift to the left of a long variable drops bits, that a shift by a negative amount is the opposite
--- shift. Assumes nothing.
+-- variable, and each assignment of a long variable to a short one (`short`). 6.5, 6.7 and 6.8 have none of these. The amounts that the clauses write
+-- out are below the width: 1, 11, 14, 15, 16 and 19 of 32 bits, 1, 3, 4 and 5 of 16. What document 01 decides itself is no field: that sums and
+-- differences saturate, that a shift to the left of a long variable drops bits, that a shift by a negative amount is the opposite shift. Assumes
+-- nothing.
 use mathlib.Core.Path.{_≡_}
 use mathlib.Core.Bool.{true, false}
 use mathlib.Core.List.{List}
@@ -62,7 +62,8 @@ pub record Clause-6-2 (scalvad : ℤ) (ptsacf ptsav0 : ℕ) : Type 0 where
   pub sacf-at : inside LAST-SACF ptsacf ≡ ptsacf
   pub sav0-at : inside LAST-SAV0 ptsav0 ≡ ptsav0
 
--- ---- 6.3.1. The recursion with any division in the place of `div`: word for word that of crates/predictor/specs/Schur.antt
+-- ---- 6.3.1. The recursion of crates/predictor/specs/Schur.antt with any division in the place of `div`. With `div` it is the clause's:
+-- `same-recursion` in proofs/Covered.antt
 module _ (division : ℤ → ℤ → ℤ) where
   unfoldable pub coefficientBy : ℤ → ℤ → ℤ
   coefficientBy P0 P1 = let q = division (abs P1) P0 in IF ltZ (pos 0) P1 THEN sub (pos 0) q ELSE q
@@ -91,6 +92,11 @@ pub record Clause-6-3-1 (L-av1 : List ℤ) : Type 0 where
   -- so every division that answers as `div` does where document 01 covers it gives the same coefficients
   pub any-division : (division : ℤ → ℤ → ℤ) → ((x y : ℤ) → Divides x y → division x y ≡ div x y) → vparBy division L-av1 ≡ vparOf L-av1
 
+-- ---- 6.3.2: `16384 << 15` and `vpar[m] << 14`, of short numbers that become long, drop no bit
+pub record Clause-6-3-2 (vpar : List ℤ) : Type 0 where
+  pub first : pos 16384 << pos 15 ≡ pos 16384 *ℤ pos 32768
+  pub each : (m : ℕ) → at vpar m << pos 14 ≡ at vpar m *ℤ pos 16384
+
 -- ---- 6.3.3
 pub record Clause-6-3-3 (aav1 : List ℤ) : Type 0 where
   -- `normrav1 = norm( L_work[0] )`, and `L_work[i] << normrav1`
@@ -104,7 +110,7 @@ tempOf L-temp = L-temp << norm L-temp >> pos 16
 abbrev pub divisorOf : List ℤ → ℤ
 divisorOf L-av0 = sav0Of L-av0 0 <<ₛ pos 3
 
-pub record Clause-6-4 (L-av0 : List ℤ) (L-temp normrav1 : ℤ) : Type 0 where
+pub record Clause-6-4 (L-av0 : List ℤ) (L-temp : ℤ) (f : Filter) : Type 0 where
   -- `shift = norm( L_av0[0] )`, and `L_av0[i] << shift-3`: by a negative amount it is a shift to the right by 1, 2 or 3
   pub shift-av0 : Norms (at L-av0 0)
   pub by-shift-3 : Between (negℤ (pos 3)) (pos 27) (sub (norm (at L-av0 0)) (pos 3))
@@ -116,8 +122,9 @@ pub record Clause-6-4 (L-av0 : List ℤ) (L-temp normrav1 : ℤ) : Type 0 where
   -- `IF ( sav0[0] >= temp ) THEN div( temp, sav0[0] ) ELSE div( sub( temp, sav0[0] ), sav0[0] )`
   pub below : leZ (tempOf L-temp) (divisorOf L-av0) ≡ true → Divides (tempOf L-temp) (divisorOf L-av0)
   pub above : leZ (tempOf L-temp) (divisorOf L-av0) ≡ false → Divides (sub (tempOf L-temp) (divisorOf L-av0)) (divisorOf L-av0)
-  -- `L_dm >> normrav1`
-  pub by-normrav1 : Between (pos 2) (pos 9) normrav1
+  -- `rav1[0] << 11`, of a short variable that becomes long, drops no bit; and `L_dm >> normrav1`
+  pub rav1-first : at (f .rav1) 0 << pos 11 ≡ at (f .rav1) 0 *ℤ pos 2048
+  pub by-normrav1 : Between (pos 2) (pos 9) (f .normrav1)
 
 -- ---- 6.6, of a frame that is not below the level. `fitted`: whichever of its two assignments is made, `short` changes nothing
 pub record Fitted (L-temp : ℤ) : Type 0 where
@@ -160,8 +167,9 @@ module _ (L-ACF : List ℤ) (lags : List ℕ) (scalvad : ℤ) (s : State) where
     pub c-6-1 : pos 1 ≤ℤ at L-ACF 0 → Clause-6-1 L-ACF scalvad (s .rvad)
     pub c-6-2 : Clause-6-2 scalvad (s .ptsacf) (s .ptsav0)
     pub c-6-3-1 : Clause-6-3-1 (averages .av1)
+    pub c-6-3-2 : Clause-6-3-2 (vparOf (averages .av1))
     pub c-6-3-3 : Clause-6-3-3 (row 9 (aav1Of (vparOf (averages .av1))))
-    pub c-6-4 : Clause-6-4 (averages .av0) (magnitudeOf (L-ΣpOf (filter .rav1) (averages .av0))) (filter .normrav1)
+    pub c-6-4 : Clause-6-4 (averages .av0) (magnitudeOf (L-ΣpOf (filter .rav1) (averages .av0))) filter
     pub c-6-6 : greaterOf PTH (energies .acf0) ≡ false → Clause-6-6 (s .thvad) (energies .pvad)
     pub c-6-9 : Clause-6-9 (s .oldlag) lags
     -- an all-zero frame: 6.1 exits at once, 6.2 to 6.4 are not run, and 6.6 stops at the level
