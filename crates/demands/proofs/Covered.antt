@@ -46,10 +46,13 @@ use Rattle.state.specs.declared.State.{State}
 use Rattle.state.specs.Valid.{within, pointerOk, sacfWithin, sacfOk, sav0Ok, weightOf, rvadOk, thvadOk, lagOk, countsOk, validOf, Between, Shaped, resetOf}
 use Rattle.detector.specs.Refusal.{lengthsOk, scaleOk, acfOk, lagsOk, frameRefusalOf, refusalOf}
 use Rattle.detector.proofs.Keeps.{Numbers, accepted, kind, filter-ok, incoming, frames-was, frames-at-was, sums-was, sums-at-was}
+use Rattle.detector.specs.declared.Answer.{Answer}
+use Rattle.detector.specs.Step.{stepOf}
+use Rattle.demands.specs.Demands.{NeverMet}
 use Rattle.demands.specs.Worked.{acf, forty}
 use Rattle.demands.specs.Idle.{quiet}
 use Rattle.demands.specs.Covered.{Divides, Clause-6-1, Clause-6-2, coefficientBy, outerBy, schurBy, vparBy, Clause-6-3-1, Clause-6-3-2, Clause-6-3-3, tempOf, divisorOf, Clause-6-4, Fitted, Clause-6-6, Covered}
-use Rattle.demands.proofs.Meets.{reset-meets}
+use Rattle.demands.proofs.Meets.{numbered, reset-meets}
 use Rattle.demands.proofs.Idle.{numbers}
 use Rattle.predictor.proofs.Division.{abs-some, stays, vpar-fits}
 use Rattle.spectrum.proofs.Divisor.{Long, long, temp-long, top-range, sav0-eight, divisor-range}
@@ -229,6 +232,11 @@ covered L-ACF lags scalvad s fits shape none =
       c-6-9 = record { first = v .oldlag .0; each = λ j h. ok .each-lag j h .0 };
       all-zero = λ e. ap (λ (x : Energies). greaterOf PTH (x .acf0)) (energy-silent L-ACF scalvad (s .rvad) (s .normrvad) e) ∙ sym (above PTH silent refl);
     }
+
+-- what a caller has: `r ≡ stepOf ..` is what the function ensures
+pub never-met : (L-ACF : List ℤ) (lags : List ℕ) (scalvad : ℤ) (s : State) (r : Answer) → r ≡ stepOf L-ACF lags scalvad s → Numbers L-ACF → Shaped s → NeverMet L-ACF lags scalvad s r
+never-met L-ACF lags scalvad s r e fits shape none =
+    covered L-ACF lags scalvad s fits shape (sym (numbered L-ACF lags scalvad s) ∙ (ap (λ (x : Answer). x .refusal) (sym e) ∙ none))
 
 -- ---- frames that this speaks of: one with energy, and one that is not below the level of 6.6
 pub covered-quiet : Covered quiet forty (pos 0) resetOf × (pos 1 ≤ℤ at quiet 0)

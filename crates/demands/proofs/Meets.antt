@@ -32,7 +32,7 @@ module _ (L-ACF : List ℤ) (lags : List ℕ) (scalvad : ℤ) (s : State) where
   number = refusalOf L-ACF lags scalvad s
 
   -- the number that the answer has is the table's
-  numbered : r .refusal ≡ number
+  pub numbered : r .refusal ≡ number
   numbered =
       either (r .refusal ≡ number) (eqb number 0)
       (λ h. let n : number ≡ 0 = eqb-true number 0 h in accepted-number L-ACF lags scalvad s n ∙ sym n)

@@ -32,6 +32,7 @@ said : saidOf resetOf line .text ≡ output
 unfolding output saidOf steppedOf textOf flagOf IF_THEN_ELSE_
 said = rw (decodes, answer-1-0 .0, answer-1-0 .1, answer-1-0 .2)
 
+-- `WholeCase` of Demands.antt
 pub whole-case : runOf input ≡ output
 unfolding output
 whole-case = one-line ∙ ap (λ (t : List ℕ). t ++ []) said

@@ -2,8 +2,9 @@
 -- demand, a statement about an answer and about what each lent buffer holds afterwards. proofs/Meets.antt and proofs/Lines.antt prove it of what
 -- the functions promise for every input (their `ensures`): of `stepOf`, which is what `detector::step` answers, and of what `lines::read` and
 -- `lines::write` answer and leave. That every call ends and that nothing overflows is what the toolchain proves of every function; a buffer that is
--- lent for reading only is not written by any call. Beside this file: Case (document 01's whole case, from bytes to bytes), Covered (what was
--- decided where document 01 is silent is never met), Sums (its sums done by hand), Idle (its idle programs). Assumes nothing.
+-- lent for reading only is not written by any call. Behind the demands stand document 01's whole case, from bytes to bytes, and that what was decided
+-- where document 01 is silent is never met. Distance, Case and Covered hold what these statements name. Beside this file: Sums (document 01's sums done
+-- by hand), Idle (its idle programs). Assumes nothing.
 use mathlib.Core.Path.{_≡_}
 use mathlib.Core.Bool.{true, false, _&&_}
 use mathlib.Core.List.{List}
@@ -27,6 +28,9 @@ use Rattle.detector.specs.Step.{acceptedOf}
 use Rattle.lines.specs.Line.{Frame, frameOf, formedOf}
 use Rattle.lines.specs.Answers.{readOf, acfAfter, lagsAfter, writeOf, lineAfter}
 use Rattle.lines.specs.declared.Heading.{Heading}
+use Rattle.runner.specs.Run.{runOf}
+use Rattle.demands.specs.Case.{input, output}
+use Rattle.demands.specs.Covered.{Covered}
 use Rattle.demands.specs.Distance.{EOf, LOf, aOf, pOf, distanceOf, smallOf, energyUnits, distanceUnits, pairUnits}
 
 -- ---- 1. "A bad buffer, scale, autocorrelation, lag or state is refused with the number in document 01. A refusal hands back the state it got."
@@ -99,3 +103,12 @@ pub record Demand3 (L-ACF : List ℤ) (scalvad : ℤ) (s : State) (r : Answer) :
       → (pos (pairUnits (r .next .thvad) + distanceUnits L-ACF (s .rvad) scalvad (s .normrvad))) <ℤ (energyUnits L-ACF (s .rvad) scalvad (s .normrvad)) → r .vvad ≡ true
   pub quiet : pos 0 <ℤ LOf L-ACF (s .rvad)
       → (energyUnits L-ACF (s .rvad) scalvad (s .normrvad) +ℤ pos (distanceUnits L-ACF (s .rvad) scalvad (s .normrvad))) ≤ℤ (pos (pairUnits (r .next .thvad))) → r .vvad ≡ false
+
+-- ---- the whole case: "input `00000001`, 64 zeros, `0`, `28282828`, line feed; output `000` and a line feed"
+abbrev pub WholeCase : Type 0
+WholeCase = runOf input ≡ output
+
+-- ---- what was decided where document 01 is silent is never met in an accepted frame: clause by clause, each division, norm, shift and assignment
+-- is one that document 01 covers, so that who would have decided otherwise has the same answers
+abbrev pub NeverMet : List ℤ → List ℕ → ℤ → State → Answer → Type 0
+NeverMet L-ACF lags scalvad s r = r .refusal ≡ 0 → Covered L-ACF lags scalvad s
