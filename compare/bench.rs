@@ -1,9 +1,8 @@
 //! Measures the programs and the steps beside each other, for compare/bench, which says what is printed.
 //!
 //!     bench grow RUN_TRACE SECOND ROUNDS FILE..   a line for each file: frames, best seconds of each program, best of its processor's, peak kB
-//!     bench first FILE STEPS                      STEPS steps through the static library over the frames of FILE, again and again
-//!     bench second FILE STEPS                     the same steps of the second implementation
-//!     bench steps FILE STEPS ROUNDS               both in turn: best seconds of each, best of the processor's
+//!     bench second FILE STEPS                     STEPS steps of the second implementation over the frames of FILE, again and again
+//!     bench steps FILE STEPS ROUNDS               these and the library's in turn: best seconds of each, best of the processor's
 #[allow(dead_code)]
 #[path = "../crates/card/lindenflax.rs"]
 mod lindenflax;
@@ -157,7 +156,6 @@ fn main() {
                 println!("{frames} {:.6} {:.6} {:.6} {:.6} {} {}", a.0, b.0, a.1, b.1, peak(word(1), path), b.2);
             }
         }
-        "first" => println!("{}", first(&frames(word(1)), count(2))),
         "second" => println!("{}", other(&frames(word(1)), count(2))),
         "steps" => {
             let f = frames(word(1));
@@ -172,6 +170,6 @@ fn main() {
             }
             println!("{:.6} {:.6} {:.6} {:.6}", a.0, b.0, a.1, b.1);
         }
-        _ => fail("grow, first, second or steps"),
+        _ => fail("grow, second or steps"),
     }
 }

@@ -6,7 +6,7 @@ use operations::l_add;
 use operations::l_mult;
 
 // The lesser of two lengths.
-fn lesser(m: usize, n: usize) -> usize
+pub fn lesser(m: usize, n: usize) -> usize
     ensures { λ r. ⌜ r ≡ min m n ⌝ }
 {
     if m < n { m } else { n }

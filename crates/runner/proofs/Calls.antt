@@ -1,46 +1,101 @@
 -- What a caller of `start`, `feed` and `finish` gets, by their promises alone, is what the run of the whole input writes, however the input is
 -- cut. Assumes nothing.
 use mathlib.Core.Path.{_≡_, refl, sym, ap, ap₂, _∙_}
-use mathlib.Core.List.{List, [], _∷_, _++_, map}
-use Prim.Native.Nat.{ℕ}
+use mathlib.Core.Bool.{false}
+use mathlib.Core.List.{List, [], _∷_, _++_, append-nil}
+use Prim.Native.Nat.{ℕ, _+_, _/_, _≤_}
 use native.Mathlib.Omega.{arith}
-use lib.ListN.{length, length-append, length-take, length-replicate}
+use borrow.Author.Tests.{le-leb, leb-true, eqb-true, eqb-false}
+use lib.Dec.{eqb, leb}
+use lib.ListN.{length, take}
+use lib.Seq.{take-all}
+use Rattle.rows.specs.Choice.{IF_THEN_ELSE_}
+use Rattle.rows.proofs.Choice.{by-test}
+use Rattle.rows.specs.Rows.{all}
+use Rattle.state.specs.declared.State.{State}
+use Rattle.state.specs.Valid.{resetOf}
+use Rattle.pieces.specs.Lines.{linesOf}
+use Rattle.pieces.specs.Cut.{finderOf, heldOf, restOf}
+use Rattle.pieces.specs.Pieces.{flat, handedOf, handedAll, textAfter}
+use Rattle.pieces.proofs.Found.{one-line}
+use Rattle.pieces.proofs.Carried.{held-plain}
+use Rattle.pieces.proofs.Caller.{text-append, text-whole}
+use Rattle.pieces.proofs.Written.{put-front}
+use Rattle.pieces.proofs.Runs.{handed-fits}
 use Rattle.runner.specs.declared.Runner.{Runner}
 use Rattle.runner.specs.declared.Fed.{Fed}
-use Rattle.runner.specs.Run.{Going, pushAll, startOf, runOf}
-use Rattle.runner.specs.Fed.{padOf, runnerOf, goingOf, takenOf, fedOf}
-use Rattle.runner.specs.Pieces.{flat, piecesFrom, Call, inputOf, callsFrom}
-use Rattle.runner.proofs.Laws.{cut}
-use Rattle.runner.proofs.Steps.{fed-room, fed-text, finish-last}
+use Rattle.runner.specs.declared.Said.{Said}
+use Rattle.runner.specs.Said.{deniedOf, textOf}
+use Rattle.runner.specs.Run.{nextOf, answerOf, stateOf, answersOf, runOf}
+use Rattle.runner.specs.Fed.{startOf, writtenOf, nextRunner, fedOf, outAfter, finishOf, Call, piecesOf, callsFrom}
+use Rattle.runner.proofs.Steps.{said-cut, said-short, answer-most}
 
-abbrev pieces : List Call → List (List ℕ)
-pieces cs = map (λ (c : Call). c .piece) cs
+-- ---- a piece
+module _ (r : Runner) (p o : List ℕ) (h : length p ≤ length o / 4) where
+  pub fed-next : fedOf r p (length o) .runner ≡ nextRunner r p
+  unfolding fedOf IF_THEN_ELSE_
+  fed-next = rw (le-leb (length p) (length o / 4) h)
 
-input-flat : (cs : List Call) → inputOf cs ≡ flat (pieces cs)
-unfolding inputOf flat
-input-flat [] = refl
-input-flat (c ∷ cs) = ap (λ (l : List ℕ). c .piece ++ l) (input-flat cs)
+  pub fed-text : take (fedOf r p (length o) .wrote) (outAfter r p o) ≡ writtenOf r p
+  unfolding fedOf outAfter IF_THEN_ELSE_ writtenOf answersOf
+  fed-text = rw (le-leb (length p) (length o / 4) h) (put-front o (writtenOf r p) (handed-fits nextOf answerOf 4 answer-most (r .finder) p (r .state) (length o) (omega arith)))
 
-held-82 : (l : List ℕ) → length (padOf l) ≡ 82
-unfolding padOf
-held-82 l = simp (length-append, length-take, length-replicate) (omega arith)
+pub wrote-fits : (r : Runner) (p : List ℕ) (n : ℕ) → fedOf r p n .wrote ≤ n
+unfolding fedOf writtenOf answersOf
+wrote-fits r p n =
+    by-test (λ (f : Fed). f .wrote ≤ n) (leb (length p) (n / 4)) _ _
+    (λ t. let h = leb-true (length p) (n / 4) t in handed-fits nextOf answerOf 4 answer-most (r .finder) p (r .state) n (omega arith))
+    (λ t. omega arith)
 
-line-82 : (g : Going) → length (runnerOf g .line) ≡ 82
-unfolding runnerOf
-line-82 g = held-82 (g .seen)
+-- ---- the end: what is carried is a line
+none : (s : State) (l : List ℕ) → length l ≡ 0 → [] ≡ answersOf s (linesOf l)
+unfolding answersOf linesOf textAfter
+none s [] e = refl
+none s (b ∷ l) e = absurd (omega arith)
 
-next-is : (r : Runner) (c : Call) → fedOf r (c .piece) (length (c .lent)) .runner ≡ runnerOf (pushAll (goingOf r) (c .piece))
-unfolding takenOf
-next-is r c = ap (λ (f : Fed). f .runner) (fed-room r (c .piece) (length (c .lent)) (c .room))
+some : (s : State) (l : List ℕ) → linesOf l ≡ l ∷ [] → take 4 (answerOf s l) ≡ answersOf s (linesOf l)
+unfolding answersOf textAfter
+some s l e =
+    let n = answer-most s l in
+    take-all 4 (answerOf s l) n ∙ sym (ap (textAfter nextOf answerOf s) e ∙ append-nil (answerOf s l))
 
-calls-pieces : (r : Runner) (cs : List Call) → length (r .line) ≡ 82 → callsFrom r cs ≡ piecesFrom r (pieces cs)
-unfolding callsFrom piecesFrom
-calls-pieces r [] n = finish-last r n
-calls-pieces r (c ∷ cs) n =
-    let g = pushAll (goingOf r) (c .piece) in
-    ap₂ (λ (x y : List ℕ). x ++ y)
-    (fed-text r (c .piece) (c .lent) (c .room))
-    (ap (λ (s : Runner). callsFrom s cs) (next-is r c) ∙ calls-pieces (runnerOf g) cs (line-82 g))
+pub finish-fits : (r : Runner) → finishOf r .wrote ≤ 4
+unfolding finishOf
+finish-fits r = by-test (λ (n : ℕ). n ≤ 4) (eqb (length (heldOf (r .finder))) 0) _ _ (λ t. omega arith) (λ t. omega arith)
 
-pub called : (cs : List Call) → callsFrom (runnerOf startOf) cs ≡ runOf (inputOf cs)
-called cs = calls-pieces (runnerOf startOf) cs (line-82 startOf) ∙ (cut (pieces cs) ∙ ap runOf (sym (input-flat cs)))
+-- which is answered `600`
+pub finish-text : (r : Runner) → finishOf r .text ≡ textOf 6 false false
+unfolding finishOf answerOf deniedOf
+finish-text r = ap (λ (x : Said). x .text) (said-cut (r .state) (heldOf (r .finder)) (held-plain (r .finder)))
+
+finish-last : (r : Runner) → take (finishOf r .wrote) (finishOf r .text) ≡ answersOf (r .state) (linesOf (heldOf (r .finder)))
+unfolding finishOf
+finish-last r =
+    let f = r .finder in
+    by-test (λ (n : ℕ). take n (answerOf (r .state) (heldOf f)) ≡ answersOf (r .state) (linesOf (heldOf f))) (eqb (length (heldOf f)) 0) _ _
+    (λ t. none (r .state) (heldOf f) (eqb-true (length (heldOf f)) 0 t))
+    (λ t.
+    let p = held-plain f in
+    some (r .state) (heldOf f) (one-line (heldOf f) (omega (arith, eqb-false (length (heldOf f)) 0 t)) (omega arith)))
+
+-- ---- all calls
+piece-then : (r : Runner) (p : List ℕ) (ps : List (List ℕ)) → writtenOf r p ++ answersOf (nextRunner r p .state) (handedAll (nextRunner r p .finder) ps) ≡ answersOf (r .state) (handedAll (r .finder) (p ∷ ps))
+unfolding writtenOf nextRunner stateOf answersOf handedAll
+piece-then r p ps = sym (text-append nextOf answerOf (r .state) (handedOf (r .finder) p) (handedAll (restOf (r .finder) p) ps))
+
+calls-from : (r : Runner) (cs : List Call) → callsFrom r cs ≡ answersOf (r .state) (handedAll (r .finder) (piecesOf cs))
+unfolding callsFrom handedAll piecesOf
+calls-from r [] = finish-last r
+calls-from r (c ∷ cs) =
+    ap₂ (λ (x y : List ℕ). x ++ y) (fed-text r (c .piece) (c .lent) (c .room)) (ap (λ (s : Runner). callsFrom s cs) (fed-next r (c .piece) (c .lent) (c .room)) ∙ calls-from (nextRunner r (c .piece)) cs)
+    ∙ piece-then r (c .piece) (piecesOf cs)
+
+-- however an input is cut, the answers to the lines that are handed out are those of the run of the whole
+pub cut : (ps : List (List ℕ)) → answersOf resetOf (handedAll (finderOf []) ps) ≡ runOf (flat ps)
+unfolding runOf answersOf nextOf answerOf
+cut ps = text-whole nextOf answerOf (λ s l. ap (λ (x : Said). x .next) (said-short s l)) (λ s l. ap (λ (x : Said). x .text) (said-short s l)) _ ps
+
+-- what a caller gets by the promises
+pub called : (cs : List Call) → callsFrom startOf cs ≡ runOf (flat (piecesOf cs))
+unfolding startOf
+called cs = calls-from startOf cs ∙ cut (piecesOf cs)

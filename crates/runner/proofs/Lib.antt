@@ -1,4 +1,3 @@
 pub mod Small
-pub mod Laws
 pub mod Steps
 pub mod Calls

@@ -1,50 +1,66 @@
--- What feeding a piece of the input answers, in the words of the run: a runner holds the detector's state and the first 82 bytes of the line
--- so far, then zeros. The lent output needs four bytes for each byte of the piece: with less the piece is refused, number 1, and nothing
--- changes. `cut` in `proofs/Laws.antt` shows that what the pieces write, in order, is what the run of the whole input writes. Assumes nothing.
-use mathlib.Core.Bool.{false}
+-- What feeding a piece of the input answers: a runner holds the detector's state and the unfinished line. The lent output needs four bytes for
+-- each byte of the piece: with less the piece is refused, number 1, and nothing changes. `called` in `proofs/Calls.antt` shows that what the pieces
+-- write, in order, is what the run of the whole input writes. Assumes nothing.
 use mathlib.Core.List.{List, [], _∷_, _++_}
-use Prim.Native.Nat.{ℕ, suc, _-_, _/_, min}
+use Prim.Native.Nat.{ℕ, _+_, _/_, _≤_}
 use lib.Dec.{eqb, leb}
-use lib.ListN.{length, take, drop, replicate}
+use lib.ListN.{length, take}
 use Rattle.rows.specs.Choice.{IF_THEN_ELSE_}
+use Rattle.state.specs.declared.State.{State}
+use Rattle.state.specs.Valid.{resetOf}
+use Rattle.pieces.specs.Lines.{linesOf}
+use Rattle.pieces.specs.Cut.{finderOf, heldOf, restOf}
+use Rattle.pieces.specs.Pieces.{handedOf}
+use Rattle.pieces.specs.Put.{putOf}
 use Rattle.runner.specs.declared.Runner.{Runner}
+use Rattle.runner.specs.declared.Ran.{Ran}
 use Rattle.runner.specs.declared.Fed.{Fed}
 use Rattle.runner.specs.declared.Last.{Last}
-use Rattle.runner.specs.Said.{textOf}
-use Rattle.runner.specs.Run.{Going, pushAll}
+use Rattle.runner.specs.Said.{answerBytes}
+use Rattle.runner.specs.Run.{answerOf, stateOf, answersOf}
 
--- 82 bytes: a line's first, then zeros
-unfoldable pub padOf : List ℕ → List ℕ
-padOf l = take 82 l ++ replicate (82 - length l) 0
+unfoldable pub startOf : Runner
+startOf = record { state = resetOf; finder = finderOf [] }
 
--- the runner that holds a run, and the run that a runner holds, with nothing written yet
-unfoldable pub runnerOf : Going → Runner
-runnerOf g = record { state = g .state; line = padOf (g .seen); fill = min 82 (length (g .seen)) }
+-- the lines of a text, the answers written from `at` on
+unfoldable pub ranOf : State → List ℕ → ℕ → Ran
+ranOf s l at = record { state = stateOf s (linesOf l); wrote = at + length (answersOf s (linesOf l)) }
 
-unfoldable pub goingOf : Runner → Going
-goingOf r = record { state = r .state; seen = take (r .fill) (r .line); text = [] }
+-- a piece: the answers to the lines that end in it, and the runner for the next piece
+unfoldable pub writtenOf : Runner → List ℕ → List ℕ
+writtenOf r p = answersOf (r .state) (handedOf (r .finder) p)
 
--- how many bytes stand before the first line feed
-unfoldable pub plainOf : List ℕ → ℕ
-plainOf [] = 0
-plainOf (b ∷ l) = IF eqb b 10 THEN 0 ELSE suc (plainOf l)
-
--- a piece that is taken: how many bytes of answers, and the runner for the next piece
-unfoldable pub takenOf : Going → Fed
-takenOf g = record { refusal = 0; wrote = length (g .text); runner = runnerOf g }
+unfoldable pub nextRunner : Runner → List ℕ → Runner
+nextRunner r p = record { state = stateOf (r .state) (handedOf (r .finder) p); finder = restOf (r .finder) p }
 
 -- a piece, with n bytes of output lent
 unfoldable pub fedOf : Runner → List ℕ → ℕ → Fed
-fedOf r input n =
-    IF leb (length input) (n / 4) THEN takenOf (pushAll (goingOf r) input)
+fedOf r p n =
+    IF leb (length p) (n / answerBytes) THEN record { refusal = 0; wrote = length (writtenOf r p); runner = nextRunner r p }
     ELSE record { refusal = 1; wrote = 0; runner = r }
 
--- what the lent output holds afterwards: the answers, and then what it held
+-- what the lent output holds afterwards
 unfoldable pub outAfter : Runner → List ℕ → List ℕ → List ℕ
-outAfter r input o =
-    let t = pushAll (goingOf r) input .text in
-    IF leb (length input) (length o / 4) THEN t ++ drop (length t) o ELSE o
+outAfter r p o = IF leb (length p) (length o / answerBytes) THEN putOf o 0 (writtenOf r p) ELSE o
 
 -- what the end of the input gives: four bytes, of which `wrote` are written
 unfoldable pub finishOf : Runner → Last
-finishOf r = record { wrote = IF eqb (r .fill) 0 THEN 0 ELSE 4; text = textOf 6 false false }
+finishOf r = record { wrote = IF eqb (length (heldOf (r .finder))) 0 THEN 0 ELSE answerBytes; text = answerOf (r .state) (heldOf (r .finder)) }
+
+-- ---- a run whose input comes in pieces, by the promises
+-- one call: the piece, what the lent output holds before, and that it has four bytes for each byte of the piece
+pub record Call : Type 0 where
+  pub piece : List ℕ
+  pub lent : List ℕ
+  pub room : length piece ≤ length lent / answerBytes
+
+unfoldable pub piecesOf : List Call → List (List ℕ)
+piecesOf [] = []
+piecesOf (c ∷ cs) = c .piece ∷ piecesOf cs
+
+-- the first `wrote` bytes of each output, the calls one after the other, each with the runner that the call before gave; then the end
+unfoldable pub callsFrom : Runner → List Call → List ℕ
+callsFrom r [] = take (finishOf r .wrote) (finishOf r .text)
+callsFrom r (c ∷ cs) =
+    let f = fedOf r (c .piece) (length (c .lent)) in
+    take (f .wrote) (outAfter r (c .piece) (c .lent)) ++ callsFrom (f .runner) cs

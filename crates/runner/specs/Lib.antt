@@ -1,5 +1,4 @@
 pub mod Said
 pub mod Run
 pub mod Fed
-pub mod Pieces
 pub mod Worked

@@ -1,49 +1,28 @@
--- The meaning of a run: from the bytes of the whole input to the bytes of the output. The bytes are taken one after the other; a line feed
--- ends a line, which is then answered, whatever its length; the detector starts as reset leaves it. A line cut by the end of the input is
--- answered as malformed, `600`, and nothing in is nothing out. Assumes nothing.
-use mathlib.Core.Bool.{false}
-use mathlib.Core.List.{List, [], _∷_, _++_}
+-- The meaning of a run: from the bytes of the whole input to the bytes of the output. Each line of the input is answered, one after the other,
+-- whatever its length; the detector starts as reset leaves it. A line cut by the end of the input is a line too, and malformed, `600`: it has no
+-- line feed. Nothing in is nothing out. Assumes nothing.
+use mathlib.Core.List.{List}
 use Prim.Native.Nat.{ℕ}
-use lib.Dec.{eqb}
-use Rattle.rows.specs.Choice.{IF_THEN_ELSE_}
 use Rattle.state.specs.declared.State.{State}
 use Rattle.state.specs.Valid.{resetOf}
-use Rattle.runner.specs.Said.{saidOf, textOf}
+use Rattle.pieces.specs.Lines.{linesOf}
+use Rattle.pieces.specs.Pieces.{stateAfter, textAfter}
+use Rattle.runner.specs.Said.{saidOf}
 
--- the detector, the line so far, and what was written
-pub record Going : Type 0 where
-  pub state : State
-  pub seen : List ℕ
-  pub text : List ℕ
+-- one line: the state for the next, and what is written
+unfoldable pub nextOf : State → List ℕ → State
+nextOf s l = saidOf s l .next
 
--- the line ends with this part, and is answered
-unfoldable pub endWith : Going → List ℕ → Going
-endWith g part =
-    let s = saidOf (g .state) (g .seen ++ part) in
-    record { state = s .next; seen = []; text = g .text ++ s .text }
+unfoldable pub answerOf : State → List ℕ → List ℕ
+answerOf s l = saidOf s l .text
 
--- the line goes on
-unfoldable pub gather : Going → ℕ → Going
-gather g b = record { state = g .state; seen = g .seen ++ (b ∷ []); text = g .text }
+-- lines one after the other, from a state on
+unfoldable pub stateOf : State → List (List ℕ) → State
+stateOf s ls = stateAfter nextOf s ls
 
--- a byte
-unfoldable pub pushOf : Going → ℕ → Going
-pushOf g b = IF eqb b 10 THEN endWith g (b ∷ []) ELSE gather g b
+unfoldable pub answersOf : State → List (List ℕ) → List ℕ
+answersOf s ls = textAfter nextOf answerOf s ls
 
-unfoldable pub pushAll : Going → List ℕ → Going
-pushAll g [] = g
-pushAll g (b ∷ l) = pushAll (pushOf g b) l
-
--- a line cut by the end of the input is malformed
-unfoldable pub lastOf : List ℕ → List ℕ
-lastOf [] = []
-lastOf (b ∷ l) = textOf 6 false false
-
-unfoldable pub finalOf : Going → List ℕ
-finalOf g = g .text ++ lastOf (g .seen)
-
-unfoldable pub startOf : Going
-startOf = record { state = resetOf; seen = []; text = [] }
-
+-- the whole input
 unfoldable pub runOf : List ℕ → List ℕ
-runOf input = finalOf (pushAll startOf input)
+runOf input = answersOf resetOf (linesOf input)

@@ -12,12 +12,17 @@ use Rattle.detector.specs.declared.Answer.{Answer}
 use Rattle.detector.specs.Step.{stepOf}
 use Rattle.runner.specs.declared.Said.{Said}
 
-unfoldable pub bitOf : Bool → ℕ
-bitOf b = IF b THEN 49 ELSE 48
+-- the bytes of an answer
+abbrev pub answerBytes : ℕ
+answerBytes = 4
+
+-- a flag as a character
+unfoldable pub flagOf : Bool → ℕ
+flagOf b = IF b THEN 49 ELSE 48
 
 -- refusal number, vad, vvad, line feed
 unfoldable pub textOf : ℕ → Bool → Bool → List ℕ
-textOf n vad vvad = (48 + n) ∷ bitOf vad ∷ bitOf vvad ∷ 10 ∷ []
+textOf n vad vvad = (48 + n) ∷ flagOf vad ∷ flagOf vvad ∷ 10 ∷ []
 
 -- a line whose frame went to the detector
 unfoldable pub steppedOf : Answer → Said

@@ -3,16 +3,18 @@
 use mathlib.Core.Path.{_≡_, refl}
 use mathlib.Core.List.{[], _∷_}
 use Rattle.rows.specs.Choice.{IF_THEN_ELSE_}
-use Rattle.runner.specs.Said.{saidOf, deniedOf, textOf, bitOf}
-use Rattle.runner.specs.Run.{endWith, gather, pushOf, pushAll, lastOf, finalOf, startOf, runOf}
+use Rattle.pieces.specs.Lines.{onFirst, linesOf}
+use Rattle.pieces.specs.Pieces.{stateAfter, textAfter}
+use Rattle.runner.specs.Said.{saidOf, deniedOf, textOf, flagOf}
+use Rattle.runner.specs.Run.{nextOf, answerOf, stateOf, answersOf, runOf}
 use Rattle.lines.specs.Line.{formedOf}
 use Rattle.lines.specs.Answers.{refusedOf, decodedOf}
 
 -- an empty line, then a line cut by the end of the input
 pub cut-line : runOf (10 ∷ 48 ∷ []) ≡ 54 ∷ 48 ∷ 48 ∷ 10 ∷ 54 ∷ 48 ∷ 48 ∷ 10 ∷ []
-unfolding IF_THEN_ELSE_ formedOf refusedOf decodedOf bitOf textOf deniedOf saidOf endWith gather pushOf pushAll lastOf finalOf startOf runOf
+unfolding IF_THEN_ELSE_ formedOf refusedOf decodedOf flagOf textOf deniedOf saidOf onFirst linesOf stateAfter textAfter nextOf answerOf stateOf answersOf runOf
 cut-line = refl
 
 pub nothing : runOf [] ≡ []
-unfolding pushAll lastOf finalOf startOf runOf
+unfolding linesOf textAfter answersOf runOf
 nothing = refl

@@ -5,15 +5,15 @@ use Prim.Native.Nat.{ℕ, _≤_}
 use lib.ListN.{length}
 use lib.Seq.{length-take-le}
 use Rattle.runner.specs.declared.Last.{Last}
-use Rattle.runner.proofs.Steps.{finish-fits}
+use Rattle.runner.proofs.Calls.{finish-fits}
 use Rattle.run_trace.proofs.run.Statement.{statement}
 use Rattle.run_trace.proofs.run.Tie as tie
 
 abbrev Inv-loop : tie.InvT-loop
-Inv-loop fd path piece₀ out₀ r₀ turns₀ more₀ written₀ t13 piece out r turns more written = (length piece ≡ 16384) × (length out ≡ 65536)
+Inv-loop fd name piece₀ out₀ r₀ turns₀ more₀ written₀ piece out r turns more written = (length piece ≡ 16384) × (length out ≡ 65536)
 
 abbrev μ-loop : tie.MeasureT-loop
-μ-loop fd path piece₀ out₀ r₀ turns₀ more₀ written₀ t13 piece out r turns more written = turns
+μ-loop fd name piece₀ out₀ r₀ turns₀ more₀ written₀ piece out r turns more written = turns
 
 start-requires : tie.Need-start-requires Inv-loop μ-loop
 start-requires c κs = search needs
@@ -55,23 +55,14 @@ fits c =
 array-share-prefix-text : tie.Need-array-share-prefix-text Inv-loop μ-loop
 array-share-prefix-text c = fits c
 
-slice-aggregate-write-all : tie.Need-slice-aggregate-write-all Inv-loop μ-loop
-slice-aggregate-write-all c = sym (length-take-le _ _ (fits (c .before)))
+slice-aggregate-write : tie.Need-slice-aggregate-write Inv-loop μ-loop
+slice-aggregate-write c = sym (length-take-le _ _ (fits (c .before)))
 
-write-all-requires : tie.Need-write-all-requires Inv-loop μ-loop
-write-all-requires c κs = search needs
-
-slice-aggregate-fail : tie.Need-slice-aggregate-fail Inv-loop μ-loop
-slice-aggregate-fail c = search needs
-
-fail-requires : tie.Need-fail-requires Inv-loop μ-loop
-fail-requires c κs = search needs
+write-requires : tie.Need-write-requires Inv-loop μ-loop
+write-requires c κs = search needs
 
 returns-2 : tie.Need-returns-2 Inv-loop μ-loop
 returns-2 c = search needs
-
-returns-3 : tie.Need-returns-3 Inv-loop μ-loop
-returns-3 c = search needs
 
 pub run-spec : {M : Type 1} → statement M
 run-spec =
@@ -90,9 +81,6 @@ run-spec =
     returns
     finish-requires
     array-share-prefix-text
-    slice-aggregate-write-all
-    write-all-requires
-    slice-aggregate-fail
-    fail-requires
-    returns-2
-    returns-3)
+    slice-aggregate-write
+    write-requires
+    returns-2)

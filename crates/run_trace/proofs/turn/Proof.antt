@@ -5,30 +5,12 @@ use Prim.Native.Nat.{ℕ, _≤_}
 use lib.ListN.{length}
 use lib.Seq.{length-take-le}
 use Rattle.runner.specs.declared.Fed.{Fed}
-use Rattle.runner.proofs.Steps.{wrote-fits}
+use Rattle.runner.proofs.Calls.{wrote-fits}
 use Rattle.run_trace.proofs.turn.Statement.{statement}
 use Rattle.run_trace.proofs.turn.Tie as tie
 
 read-requires : tie.Need-read-requires
 read-requires c κs = search needs
-
-fail-requires : tie.Need-fail-requires
-fail-requires c κs = search needs
-
-same-length : tie.Need-same-length
-same-length c = search needs
-
-returns : tie.Need-returns
-returns c = search needs
-
-same-length-2 : tie.Need-same-length-2
-same-length-2 c = search needs
-
-returns-2 : tie.Need-returns-2
-returns-2 c = search needs
-
-count-requires : tie.Need-count-requires
-count-requires c κs = search needs
 
 slice-reshare-prefix-feed : tie.Need-slice-reshare-prefix-feed
 slice-reshare-prefix-feed c = search needs
@@ -42,65 +24,39 @@ feed-requires c κs = search needs
 fits : (c : tie.After-next) → c .before .before .before .feed .result .wrote ≤ length (c .before .before .before .feed .last .1 .1 .0)
 fits c =
     let f = c .before .before .before .feed in
-    let start = c .before .before .before .before .before .before .before .before .before .before .before .before .before .before .before .before .before in
+    let start = c .before .before .before .before .before .before .before .before .before .before .before .before .before in
     let n : length (f .last .1 .1 .0) ≡ length (start .args .out .now) = search needs in
     subst (λ (m : ℕ). f .result .wrote ≤ m) (sym n) (subst (λ (m : ℕ). m ≤ length (start .args .out .now)) (sym (ap (λ (x : Fed). x .wrote) (f .ensures .0))) (wrote-fits _ _ (length (start .args .out .now))))
 
-slice-reshare-prefix-write-all : tie.Need-slice-reshare-prefix-write-all
-slice-reshare-prefix-write-all c = fits c
+slice-reshare-prefix-write : tie.Need-slice-reshare-prefix-write
+slice-reshare-prefix-write c = fits c
 
-slice-aggregate-write-all : tie.Need-slice-aggregate-write-all
-slice-aggregate-write-all c = sym (length-take-le _ _ (fits (c .before)))
+slice-aggregate-write : tie.Need-slice-aggregate-write
+slice-aggregate-write c = sym (length-take-le _ _ (fits (c .before)))
 
-write-all-requires : tie.Need-write-all-requires
-write-all-requires c κs = search needs
+write-requires : tie.Need-write-requires
+write-requires c κs = search needs
 
-slice-aggregate-fail : tie.Need-slice-aggregate-fail
-slice-aggregate-fail c = search needs
+same-length : tie.Need-same-length
+same-length c = search needs
 
-fail-requires-2 : tie.Need-fail-requires-2
-fail-requires-2 c κs = search needs
+same-length-2 : tie.Need-same-length-2
+same-length-2 c = search needs
 
-same-length-3 : tie.Need-same-length-3
-same-length-3 c = search needs
-
-same-length-4 : tie.Need-same-length-4
-same-length-4 c = search needs
-
-returns-3 : tie.Need-returns-3
-returns-3 c = search needs
-
-same-length-5 : tie.Need-same-length-5
-same-length-5 c = search needs
-
-same-length-6 : tie.Need-same-length-6
-same-length-6 c = search needs
-
-returns-4 : tie.Need-returns-4
-returns-4 c = search needs
+returns : tie.Need-returns
+returns c = search needs
 
 pub turn-spec : {M : Type 1} → statement M
 turn-spec =
     tie.close
     (tie.spec
     read-requires
-    fail-requires
-    same-length
-    returns
-    same-length-2
-    returns-2
-    count-requires
     slice-reshare-prefix-feed
     slice-aggregate-feed
     feed-requires
-    slice-reshare-prefix-write-all
-    slice-aggregate-write-all
-    write-all-requires
-    slice-aggregate-fail
-    fail-requires-2
-    same-length-3
-    same-length-4
-    returns-3
-    same-length-5
-    same-length-6
-    returns-4)
+    slice-reshare-prefix-write
+    slice-aggregate-write
+    write-requires
+    same-length
+    same-length-2
+    returns)

@@ -1,219 +1,124 @@
--- `runner::feed` answers the lines that end in the piece, and keeps the rest. Assumes nothing.
-use borrow.Author.Needs.{needs}
-use mathlib.Core.Path.{_≡_, refl, sym, ap, _∙_}
-use mathlib.Core.List.{List, [], _++_}
-use Prim.Native.Nat.{ℕ, _+_, _-_, _*_, _/_, _≤_, min}
+-- `runner::feed` answers the lines that end in the piece: the carried one, then those that lie whole in it. Assumes nothing.
+use mathlib.Core.Path.{_≡_, sym, ap, ap₂, subst, _∙_}
+use Prim.Native.Nat.{ℕ, _+_, _-_, _*_, _/_, _≤_}
 use native.Mathlib.Omega.{arith}
-use borrow.Author.Tests.{lt-leb}
-use lib.ListN.{length, take, drop, length-drop}
-use lib.Seq.{drop-drop, length-take-le}
-use mir.Syntax.{w64}
-use mir.Val.{Fits}
+use borrow.Author.Tests.{lt-leb, le-leb}
+use lib.ListN.{length, take, drop}
+use lib.Seq.{length-take-le}
 use Rattle.rows.specs.Choice.{IF_THEN_ELSE_}
-use Rattle.lines.proofs.Puts.{put-take, put-drop, put-length}
-use Rattle.runner.specs.declared.Said.{Said}
-use Rattle.runner.specs.Run.{Going, pushAll}
-use Rattle.runner.specs.Fed.{padOf, plainOf, fedOf, outAfter}
-use Rattle.runner.proofs.Steps.{at, said-four, plain-le, take-pad, start-going, feed-next, feed-end, feed-out}
+use Rattle.state.specs.declared.State.{State}
+use Rattle.pieces.specs.declared.Finder.{Finder}
+use Rattle.pieces.specs.Lines.{linesOf, kept}
+use Rattle.pieces.specs.Cut.{restOf}
+use Rattle.pieces.proofs.Written.{put-length}
+use Rattle.pieces.proofs.Runs.{head-room, mid-room, piece-state, piece-count, piece-out, cut-n, cut-head, cut-from, cut-to, cut-mid, cut-rest}
+use Rattle.runner.specs.declared.Ran.{Ran}
+use Rattle.runner.specs.declared.Fed.{Fed}
+use Rattle.runner.specs.Run.{nextOf, answerOf, stateOf, answersOf}
+use Rattle.runner.specs.Fed.{ranOf, writtenOf, nextRunner, fedOf, outAfter}
+use Rattle.runner.proofs.Steps.{answer-most}
+use borrow.Author.Needs.{needs}
 use Rattle.runner.proofs.feed.Statement.{statement}
 use Rattle.runner.proofs.feed.Tie as tie
 
-abbrev Inv-loop : tie.InvT-loop
-Inv-loop input out₀ state₀ fill₀ line₀ i₀ wrote₀ e₀ out state fill line i wrote e =
-    (i ≤ length input) × (e ≡ i + plainOf (drop i input)) × (fill ≤ 82) × (length line ≡ 82) × (line ≡ padOf (take fill line))
-    × (wrote ≤ 4 * i) × (length out ≡ length out₀) × (drop wrote out ≡ drop wrote out₀) × (length input ≤ length out₀ / 4)
-    × (pushAll (at state line fill (take wrote out)) (drop i input) ≡ pushAll (at state₀ line₀ fill₀ []) input)
-
-abbrev μ-loop : tie.MeasureT-loop
-μ-loop input out₀ state₀ fill₀ line₀ i₀ wrote₀ e₀ out state fill line i wrote e = length input - i
-
-returns : tie.Need-returns Inv-loop μ-loop
+returns : tie.Need-returns
 unfolding fedOf outAfter IF_THEN_ELSE_
 returns c =
     let s = c .before .before .before in
     let h = lt-leb (length (s .args .input .now)) (length (s .args .out .now) / 4) (c .if1 .taken) in
     (rw h, rw h)
 
-least-requires : tie.Need-least-requires Inv-loop μ-loop
-least-requires c κs = search needs
+cut-requires : tie.Need-cut-requires
+cut-requires c κs = search needs
 
-cleared-requires : tie.Need-cleared-requires Inv-loop μ-loop
-cleared-requires c κs = search needs
+fits : (c : tie.After-head) → c .before .cut .result .n ≤ length (c .before .cut .result .head)
+fits c =
+    let n : length (c .before .cut .result .head) ≡ kept = search needs in
+    let h = cut-n _ _ (c .before .cut .result) (c .before .cut .ensures) in
+    omega arith
 
-find-requires : tie.Need-find-requires Inv-loop μ-loop
-find-requires c κs = search needs
+-- where the whole lines lie
+parted : (c : tie.After-cut) → (c .cut .result .from ≤ c .cut .result .to) × (c .cut .result .to ≤ length (c .before .before .before .before .before .before .args .input .now))
+parted c = (cut-from _ _ (c .cut .result) (c .cut .ensures), cut-to _ _ (c .cut .result) (c .cut .ensures))
 
-loop-holds : tie.Need-loop-holds Inv-loop μ-loop
-loop-holds c =
-    let s = c .before .before .before .before .before .before .before .before in
-    let n : length (s .args .r .line) ≡ 82 = search needs in
-    let f : c .before .before .least .result ≤ 82 = omega arith in
-    let q = c .before .cleared .ensures in (
-      omega arith,
-      c .find .ensures,
-      f,
-      search needs,
-      sym (ap (λ (x : List ℕ). padOf (take (c .before .before .least .result) x)) q ∙ (ap padOf (take-pad (s .args .r .line) (c .before .before .least .result) n f) ∙ sym q)),
-      omega arith,
-      refl,
-      refl,
-      omega arith,
-      refl,
-    )
+-- four bytes for each byte of the piece
+big : (c : tie.Else1) → 4 * length (c .before .before .before .args .input .now) ≤ length (c .before .before .before .args .out .now)
+big c = omega arith
 
-add-to : tie.Need-add-to Inv-loop μ-loop
-add-to c = search needs
+array-share-prefix-head : tie.Need-array-share-prefix-head
+array-share-prefix-head c = fits c
 
-sub-ended : tie.Need-sub-ended Inv-loop μ-loop
-sub-ended c = search needs
+slice-aggregate-run : tie.Need-slice-aggregate-run
+slice-aggregate-run c = sym (length-take-le _ _ (fits (c .before)))
 
-part-ended-start : tie.Need-part-ended-start Inv-loop μ-loop
-part-ended-start c = search needs
+run-requires : tie.Need-run-requires
+run-requires c κs =
+    let k = c .before .before .before in
+    let e = k .before .before .before in
+    let a = e .before .before .before .args in
+    let q = k .cut in
+    head-room nextOf answerOf 4 answer-most (a .r .finder) (a .input .now) _ _ (cut-head _ _ (q .result) (q .ensures)) (cut-mid _ _ (q .result) (q .ensures)) (a .r .state) (a .out .now) (big e)
 
-part-ended-end : tie.Need-part-ended-end Inv-loop μ-loop
-part-ended-end c = search needs
+sub-run : tie.Need-sub-run
+sub-run c = parted (c .before .before .before .before .before .before .before) .0
 
-ended-requires : tie.Need-ended-requires Inv-loop μ-loop
-ended-requires c κs = search needs
+part-run-start : tie.Need-part-run-start
+part-run-start c = parted (c .before .before .before .before .before .before .before) .0
 
-put4-requires : tie.Need-put4-requires Inv-loop μ-loop
-put4-requires c κs = search needs
+part-run-end : tie.Need-part-run-end
+part-run-end c = parted (c .before .before .before .before .before .before .before) .1
 
--- four more bytes fit
-room : (c : tie.In-loop Inv-loop μ-loop) → Fits w64 (c .before .loop .wrote + 4)
-room c =
-    let k = c .before .before .before .before .before .before .before .before .slice-known .given in
-    search needs
+run-requires-2 : tie.Need-run-requires-2
+unfolding ranOf answersOf
+run-requires-2 c κs =
+    let u = c .before .before .before .before .before in
+    let k = u .before .before .before .before in
+    let e = k .before .before .before in
+    let a = e .before .before .before .args in
+    let q = k .cut in
+    let m = mid-room nextOf answerOf 4 answer-most (a .r .finder) (a .input .now) _ _ (cut-head _ _ (q .result) (q .ensures)) (cut-mid _ _ (q .result) (q .ensures)) (a .r .state) (a .out .now) (big e) (u .run .result .wrote) (ap (λ (x : Ran). x .wrote) (u .run .ensures .0)) in
+    subst (λ (j : ℕ). u .run .result .wrote + 4 * length (linesOf (take (q .result .to - q .result .from) (drop (q .result .from) (a .input .now)))) ≤ j) (sym (ap length (u .run .ensures .1) ∙ put-length _ _ _)) m
 
-add-wrote : tie.Need-add-wrote Inv-loop μ-loop
-add-wrote c = room (c .before .before .before .before .before .before .before)
-
-find-requires-2 : tie.Need-find-requires-2 Inv-loop μ-loop
-find-requires-2 c κs = search needs
-
-loop-less : tie.Need-loop-less Inv-loop μ-loop
-loop-less c = search needs
-
-loop-again : tie.Need-loop-again Inv-loop μ-loop
-unfolding padOf
-loop-again c =
-    let b = c .before .before .before .before in
-    let d = b .before .before .before in
-    let l = d .before .before .before in
-    let w = l .loop in
-    let v = w .inv in
-    let a = l .before .before .before .before .before .before .before .before .before .args in
-    let x = d .ended .result .text in
-    let e = b .put4 .ensures in
-    let n : length x ≡ 4 = ap (λ (y : Said). length (y .text)) (d .ended .ensures) ∙ said-four _ _ in
-    let h : w .wrote + 4 ≤ length (w .out) = omega arith in (
-      omega arith,
-      c .find2 .ensures,
-      omega arith,
-      refl,
-      refl,
-      omega arith,
-      put-length (w .out) _ x (w .wrote) 4 e n h ∙ v .6,
-      put-drop (w .out) _ x (w .wrote) 4 e n h ∙ (sym (drop-drop 4 (w .wrote) (w .out)) ∙ (ap (drop 4) (v .7) ∙ drop-drop 4 (w .wrote) (a .out .now))),
-      v .8,
-      feed-next (a .input .now) (w .i) (w .e) (at (w .state) (w .line) (w .fill) (take (w .wrote) (w .out))) (d .ended .result) _ (v .1) (omega arith) (d .ended .ensures) (put-take (w .out) _ x (w .wrote) 4 e n h) ∙ v .9,
-    )
-
-sub-least : tie.Need-sub-least Inv-loop μ-loop
-sub-least c = search needs
-
-sub-least-2 : tie.Need-sub-least-2 Inv-loop μ-loop
-sub-least-2 c = search needs
-
-least-requires-2 : tie.Need-least-requires-2 Inv-loop μ-loop
-least-requires-2 c κs = search needs
-
-add-to-2 : tie.Need-add-to-2 Inv-loop μ-loop
-add-to-2 c = search needs
-
-sub-append : tie.Need-sub-append Inv-loop μ-loop
-sub-append c = search needs
-
-part-append-start : tie.Need-part-append-start Inv-loop μ-loop
-part-append-start c = search needs
-
-part-append-end : tie.Need-part-append-end Inv-loop μ-loop
-part-append-end c =
-    let l = c .before .before in
-    let a = l .before .before .before .before .before .before .before .before .before .args in
-    let h = plain-le (drop (l .loop .i) (a .input .now)) in
-    let d = length-drop (l .loop .i) (a .input .now) in
-    omega (arith, l .loop .inv .1, c .least2 .ensures)
-
-append-requires : tie.Need-append-requires Inv-loop μ-loop
-append-requires c κs = search needs
-
-add-t18 : tie.Need-add-t18 Inv-loop μ-loop
-add-t18 c = search needs
-
-same-length : tie.Need-same-length Inv-loop μ-loop
+same-length : tie.Need-same-length
 same-length c = search needs
 
-line-82 : (c : tie.Start Inv-loop μ-loop) → length (c .args .r .line) ≡ 82
-line-82 c = search needs
+abbrev made : State → ℕ → Finder → Fed
+made s n f = record { refusal = 0; wrote = n; runner = record { state = s; finder = f } }
 
-returns-2 : tie.Need-returns-2 Inv-loop μ-loop
+returns-2 : tie.Need-returns-2
+unfolding ranOf stateOf answersOf writtenOf nextRunner fedOf outAfter IF_THEN_ELSE_
 returns-2 c =
-    let m = c .before .before in
-    let l = m .before .before in
-    let w = l .loop in
-    let v = w .inv in
-    let s = l .before .before .before .before .before .before .before .before .before in
-    let input = s .args .input .now in
-    let i = w .i in
-    let k = m .least2 .result in
-    let pl = plain-le (drop i input) in
-    let d = length-drop i input in
-    let b : plainOf (drop i input) ≡ length (drop i input) = omega (arith, v .1) in
-    let ee : w .e ≡ length input = omega (arith, v .1) in
-    let mm : k ≡ min (length input - i) (82 - w .fill) = m .least2 .ensures ∙ ap (λ (x : ℕ). min (x - i) (82 - w .fill)) ee in
-    let j : i + k - i ≡ k = omega arith in
-    let kk : length (take k (drop i input)) ≡ k = length-take-le k (drop i input) (omega arith) in
-    let wl : w .wrote ≤ length (w .out) = omega arith in
-    let n = line-82 s in
-    let run = v .9 ∙ ap (λ (g : Going). pushAll g input) (start-going (s .args .r) (l .before .before .before .least .result) (l .before .before .cleared .result) n (omega arith) (l .before .before .before .least .ensures) (l .before .before .cleared .ensures)) in
-    let last =
-    c .append .ensures
-    ∙ (ap (λ (x : ℕ). take (w .fill) (w .line) ++ take x (drop i input) ++ drop (w .fill + length (take x (drop i input))) (w .line)) j
-    ∙ ap (λ (x : ℕ). take (w .fill) (w .line) ++ take k (drop i input) ++ drop (w .fill + x) (w .line)) kk) in (
-      feed-end (s .args .r) input (w .out) (s .args .out .now) (w .line) (w .state) (w .fill) i (w .wrote) k (v .0) b (v .2) (v .3) (v .4) wl (v .7) (v .8) run mm _ last,
-      feed-out (s .args .r) input (w .out) (s .args .out .now) (w .line) (w .state) (w .fill) i (w .wrote) k (v .0) b (v .2) (v .3) (v .4) wl (v .7) (v .8) run mm,
-    )
+    let v = c .before .before .before .before in
+    let u = v .before .before .before .before .before .before in
+    let k = u .before .before .before .before in
+    let e = k .before .before .before in
+    let a = e .before .before .before .args in
+    let q = k .cut in
+    let g = big e in
+    let h = le-leb (length (a .input .now)) (length (a .out .now) / 4) (omega arith) in
+    let x = cut-head _ _ (q .result) (q .ensures) in
+    let y = cut-mid _ _ (q .result) (q .ensures) in
+    let s₁ = ap (λ (z : Ran). z .state) (u .run .ensures .0) in
+    let s₂ = ap (λ (z : Ran). z .state) (v .run2 .ensures .0) in
+    let n₁ = ap (λ (z : Ran). z .wrote) (u .run .ensures .0) in
+    let n₂ = ap (λ (z : Ran). z .wrote) (v .run2 .ensures .0) in
+    let st = piece-state nextOf answerOf 4 answer-most (a .r .finder) (a .input .now) _ _ x y (a .r .state) (a .out .now) g _ _ _ _ _ _ s₁ s₂ n₁ n₂ (u .run .ensures .1) (v .run2 .ensures .1) in
+    let ct = piece-count nextOf answerOf 4 answer-most (a .r .finder) (a .input .now) _ _ x y (a .r .state) (a .out .now) g _ _ _ _ _ _ s₁ s₂ n₁ n₂ (u .run .ensures .1) (v .run2 .ensures .1) in
+    let ot = piece-out nextOf answerOf 4 answer-most (a .r .finder) (a .input .now) _ _ x y (a .r .state) (a .out .now) g _ _ _ _ _ _ s₁ s₂ n₁ n₂ (u .run .ensures .1) (v .run2 .ensures .1) in
+    (rw h (ap (made (v .run2 .result .state) (v .run2 .result .wrote)) (cut-rest _ _ (q .result) (q .ensures)) ∙ ap₂ (λ (z : State) (j : ℕ). made z j (restOf (a .r .finder) (a .input .now))) st ct), rw h ot)
 
 pub feed-spec : {M : Type 1} → statement M
 feed-spec =
     tie.close
     (tie.spec
-    Inv-loop
-    μ-loop
     returns
-    least-requires
-    cleared-requires
-    find-requires
-    loop-holds
-    add-to
-    sub-ended
-    part-ended-start
-    part-ended-end
-    ended-requires
-    put4-requires
-    add-wrote
-    find-requires-2
-    loop-less
-    loop-again
-    sub-least
-    sub-least-2
-    least-requires-2
-    add-to-2
-    sub-append
-    part-append-start
-    part-append-end
-    append-requires
-    add-t18
+    cut-requires
+    array-share-prefix-head
+    slice-aggregate-run
+    run-requires
+    sub-run
+    part-run-start
+    part-run-end
+    run-requires-2
     same-length
     returns-2)

@@ -1,16 +1,18 @@
--- `runner::start` holds the state after a reset and an empty line. Assumes nothing.
+-- `runner::start` holds the state after a reset, and no line. Assumes nothing.
 use borrow.Author.Needs.{needs}
-use Rattle.runner.specs.Run.{startOf}
-use Rattle.runner.specs.Fed.{padOf, runnerOf}
+use Rattle.runner.specs.Fed.{startOf}
 use Rattle.runner.proofs.start.Statement.{statement}
 use Rattle.runner.proofs.start.Tie as tie
 
 reset-requires : tie.Need-reset-requires
 reset-requires c κs = search needs
 
+start-requires : tie.Need-start-requires
+start-requires c κs = search needs
+
 returns : tie.Need-returns
-unfolding runnerOf startOf padOf
-returns c = rw (c .reset .ensures)
+unfolding startOf
+returns c = rw (c .start .ensures, c .before .reset .ensures)
 
 pub start-spec : {M : Type 1} → statement M
-start-spec = tie.close (tie.spec reset-requires returns)
+start-spec = tie.close (tie.spec reset-requires start-requires returns)

@@ -1,16 +1,16 @@
--- `runner::find` passes what is no line feed. Assumes nothing.
+-- `pieces::seek` passes what is no line feed. Assumes nothing.
 use borrow.Author.Needs.{needs}
 use mathlib.Core.Path.{_≡_}
 use Prim.Native.Nat.{_+_, _-_, _≤_}
 use native.Mathlib.Omega.{arith}
 use lib.ListN.{length, drop}
-use Rattle.runner.specs.Fed.{plainOf}
-use Rattle.runner.proofs.Steps.{plain-here, plain-next, plain-end}
-use Rattle.runner.proofs.find.Statement.{statement}
-use Rattle.runner.proofs.find.Tie as tie
+use Rattle.pieces.specs.Lines.{plainOf}
+use Rattle.pieces.proofs.Found.{plain-here, plain-next, plain-end}
+use Rattle.pieces.proofs.seek.Statement.{statement}
+use Rattle.pieces.proofs.seek.Tie as tie
 
 abbrev Inv-loop : tie.InvT-loop
-Inv-loop s i k₀ k = (i ≤ k) × (k ≤ length s) × (k + plainOf (drop k s) ≡ i + plainOf (drop i s))
+Inv-loop s i k₀ k = (i ≤ k) × (k + plainOf (drop k s) ≡ i + plainOf (drop i s))
 
 abbrev μ-loop : tie.MeasureT-loop
 μ-loop s i k₀ k = length s - k
@@ -25,7 +25,7 @@ returns : tie.Need-returns Inv-loop μ-loop
 returns c =
     let t = c .before .before .before in
     let s = t .before .args .s .now in
-    omega (arith, plain-here s (t .loop .k) (omega arith) (c .if1 .taken), t .loop .inv .2)
+    omega (arith, plain-here s (t .loop .k) (omega arith) (c .if1 .taken), t .loop .inv .1)
 
 add-k : tie.Need-add-k Inv-loop μ-loop
 add-k c = search needs
@@ -38,15 +38,15 @@ loop-again c =
     let t = c .before .before .before in
     let s = t .before .args .s .now in
     let n = plain-next s (t .loop .k) (omega arith) (c .if1 .left) in
-    (omega arith, omega arith, omega (arith, t .loop .inv .2))
+    (omega arith, omega (arith, t .loop .inv .1))
 
 returns-2 : tie.Need-returns-2 Inv-loop μ-loop
 returns-2 c =
     let t = c .before in
-    omega (arith, plain-end (t .before .args .s .now) (t .loop .k) (omega arith), t .loop .inv .2)
+    omega (arith, plain-end (t .before .args .s .now) (t .loop .k) (omega arith), t .loop .inv .1)
 
-pub find-spec : {M : Type 1} → statement M
-find-spec =
+pub seek-spec : {M : Type 1} → statement M
+seek-spec =
     tie.close
     (tie.spec
     Inv-loop

@@ -1,0 +1,6 @@
+pub mod Written
+pub mod Found
+pub mod Carried
+pub mod Whole
+pub mod Caller
+pub mod Runs
