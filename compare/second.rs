@@ -194,10 +194,11 @@ pub fn step(acf: &[i64], lags: &[i64], scal: i64, memory: &Memory) -> Answer {
     }
 
     // 6.2 to 6.4, which an all-zero frame leaves out
+    let left_out = acf[0] == 0;
     let mut stat = false;
     let mut rav1 = [0i64; 9];
     let mut normrav1 = 0;
-    if acf[0] != 0 {
+    if !left_out {
         let (av0, av1) = averages(acf, scal, &mut s);
         let vpar = schur(&av1);
         let aav1 = step_up(&vpar);

@@ -1,4 +1,22 @@
-/* The voice activity detector of GSM 06.32 (uplink), one frame at a time, and the lines of a trace. */
+/*
+ * The voice activity detector of GSM 06.32 (uplink), one frame at a time, and the lines of a trace.
+ *
+ * Each channel has one state of its own. The library keeps nothing between calls and allocates nothing: calls on different states may run at the same time.
+ *
+ * To build a program with it, here crates/card/example.c:
+ *
+ *     rt staticlib card
+ *     cc -I crates/card -o target/example crates/card/example.c target/staticlib/libcard.a
+ *     target/example <traces/speech_clean.trace
+ *
+ * The library is for x86-64 (System V calls). On another processor, with Debian's gcc-x86-64-linux-gnu and libc6-dev-amd64-cross:
+ *
+ *     rt staticlib card
+ *     x86_64-linux-gnu-gcc -I crates/card -o target/example crates/card/example.c target/staticlib/libcard.a
+ *     compare/on_x86_64 target/example <traces/speech_clean.trace
+ *
+ * Of the C library it needs memset and memcpy at most.
+ */
 #ifndef LINDENFLAX_H
 #define LINDENFLAX_H
 
@@ -18,45 +36,47 @@ extern "C" {
 #define LINDENFLAX_LINE 82
 
 /*
- * The state, 84 numbers. A frame is refused (5) where a number does not fit its field, or the state is not valid.
+ * The state, 84 numbers. A frame is refused (5) where a number does not fit its field, or the state is not valid. What lindenflax_reset or an
+ * accepted frame left is valid.
  *
- *   index   field                 holds
- *    0..8   rvad[0..8]            -32768..32767
- *    9      normrvad              -32768..32767
- *   10..36  L_sacf[0..26]         any
- *   37      pt_sacf               0..27
- *   38..73  L_sav0[0..35]         any
- *   74      pt_sav0               0..27
- *   75      lastdm                any
- *   76      e_thvad               -32768..32767
- *   77      m_thvad               -32768..32767
- *   78      adaptcount            -32768..32767
- *   79      burstcount            -32768..32767
- *   80      hangcount             -32768..32767
- *   81      oldlagcount           -32768..32767
- *   82      veryoldlagcount       -32768..32767
- *   83      oldlag                0..65535
- *
- * These are the ranges of the fields. A state that lindenflax_reset or an accepted frame left is valid.
+ *   index   name                  the field holds     valid
+ *    0      rvad[0]               -32768..32767       16384..32767
+ *    1..8   rvad[1..8]            -32768..32767       their magnitudes sum to at most 4 * rvad[0] + 11
+ *    9      normrvad              -32768..32767       2..9
+ *   10..36  L_sacf[0..26]         any                 -536870912..536870911; [0], [9] and [18] are not negative
+ *   37      pt_sacf               0..27               0, 9 or 18
+ *   38..73  L_sav0[0..35]         any                 [0], [9], [18] and [27] are not negative
+ *   74      pt_sav0               0..27               0, 9, 18 or 27
+ *   75      lastdm                any                 any
+ *   76      e_thvad               -32768..32767       -32..64
+ *   77      m_thvad               -32768..32767       16384..32767
+ *   78      adaptcount            -32768..32767       0..9
+ *   79      burstcount            -32768..32767       0..3
+ *   80      hangcount             -32768..32767       -1..5
+ *   81      oldlagcount           -32768..32767       0..4
+ *   82      veryoldlagcount       -32768..32767       0..4
+ *   83      oldlag                0..65535            40..120
  */
 
 /*
- * The answer to a frame that is accepted, 6 numbers.
+ * The answer to a frame that is accepted, 6 numbers. A pair (e, m) is the number m * 2^(e - 15).
  *
- *   0  vad     1 or 0
- *   1  vvad    1 or 0
- *   2  e_acf0
- *   3  m_acf0
- *   4  e_pvad
- *   5  m_pvad
+ *   0  vad       1 or 0: whether the frame is sent
+ *   1  vvad      1 or 0: the raw decision, before the hangover
+ *   2  e_acf0    acf0 is the energy of the frame
+ *   3  m_acf0    16384..32767
+ *   4  e_pvad    pvad is its energy through the filter
+ *   5  m_pvad    16384..32767
+ *
+ * vvad is 1 exactly if pvad is greater than the threshold (e_thvad, m_thvad) of the next state. Of an all-zero frame both pairs are (-32768, 0).
  */
 
 /*
  * A line of a trace, 82 bytes: 81 digits out of 0..9 and A..F, and a line feed.
  *
- *    0..71  nine autocorrelations, eight digits each, in two's complement
- *   72      the scale
- *   73..80  four lags, two digits each
+ *    0..71  acf[0..8], eight digits each, in two's complement
+ *   72      the scale, one digit
+ *   73..80  lags[0..3], two digits each
  *   81      a line feed
  */
 
@@ -73,8 +93,9 @@ extern "C" {
 uint8_t lindenflax_reset(int32_t *state, size_t state_len);
 
 /*
- * One frame: nine autocorrelations, four lags, and the scale that the autocorrelations have. The state becomes the next state, and the answer
- * is written. The checks are made in the order 1, 5, 2, 3, 4. The buffers must not overlap.
+ * One frame: the nine autocorrelations of GSM 06.10's encoder (L_ACF), its four lags (Nc), and its scale (scalauto, or 0 where that is
+ * negative). acf[0] is not negative and no other is larger in magnitude; a lag is 40..120; the scale is 0..4. The state becomes the next state, and
+ * the answer is written. The checks are made in the order 1, 5, 2, 3, 4. The buffers must not overlap.
  */
 uint8_t lindenflax_step(const int32_t *acf, size_t acf_len, const uint16_t *lags, size_t lags_len, int16_t scale, int32_t *state,
                         size_t state_len, int32_t *answer, size_t answer_len);

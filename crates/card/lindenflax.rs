@@ -1,5 +1,5 @@
-//! The functions of lindenflax.h, for Rust: link with `-L target/staticlib -l static=card`. lindenflax.h says what each of them does, what the numbers of
-//! a state and of an answer are, and what is returned.
+//! The functions of lindenflax.h, for Rust: link with `-L target/staticlib -l static=card`, for x86-64 (`rt staticlib card` writes the library).
+//! lindenflax.h says what each of them does, what the numbers of a state and of an answer are, and what is returned.
 extern "C" {
     pub fn lindenflax_reset(state: *mut i32, state_len: usize) -> u8;
     pub fn lindenflax_step(
