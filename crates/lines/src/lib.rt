@@ -2,7 +2,7 @@
 ghost use mathlib.Core.Path.{_≡_};
 ghost use mathlib.Core.Bool.{true};
 ghost use mathlib.Core.List.{_++_, map};
-ghost use Prim.Native.Nat.{_+_, _≤_, _<_, max};
+ghost use Prim.Native.Nat.{_+_, _≤_, _<_};
 ghost use lib.IntN.{pos};
 ghost use lib.ListN.{length, take, drop};
 ghost use mir.Syntax.{w32};
@@ -29,25 +29,6 @@ pub struct Heading {
 }
 
 // ---- digits
-
-// What a character is worth as a digit, 16 where it is none.
-fn value(b: u8) -> u8
-    ensures { λ r. ⌜ r ≡ hex.valueOf b ⌝ }
-{
-    if b < 48 {
-        return 16;
-    }
-    if b <= 57 {
-        return b - 48;
-    }
-    if b < 65 {
-        return 16;
-    }
-    if b <= 70 {
-        return b - 55;
-    }
-    16
-}
 
 // The character of a number below 16.
 fn digit(n: u8) -> u8
@@ -80,25 +61,42 @@ fn pattern(z: i32) -> u32
     z as u32
 }
 
-// What a digit is worth, with no branch: 65 is A, and 65 % 16 + 9 is 10.
+// Whether a character is a digit. A byte below its range wraps to one beyond it, so that there is no branch, for speed.
+fn is_hex(b: u8) -> bool
+    ensures { λ r. ⌜ r ≡ hex.hexOf b ⌝ }
+{
+    let figure = std::num::wrapping_sub_u8(b, 48) < 10;
+    let letter = std::num::wrapping_sub_u8(b, 65) < 6;
+    figure | letter
+}
+
+// What a digit is worth: 65 is A, and 65 % 16 + 9 is 10.
 fn worth(b: u8) -> u8
-    requires { ⌜ hex.valueOf b < 16 ⌝ }
+    requires { ⌜ hex.hexOf b ≡ true ⌝ }
     ensures { λ r. ⌜ r ≡ hex.valueOf b ⌝ }
 {
     b % 16 + 9 * (b / 64)
 }
 
-// The number that `k` digits from `at` on write.
-fn number(line: &[u8], at: usize, k: usize) -> u32
-    requires { ⌜ (k ≤ 8) × (at + k ≤ length (now line)) × (all hex.hexOf (take k (drop at (now line))) ≡ true) ⌝ }
-    ensures { λ r. ⌜ r ≡ hex.numberOf (take k (drop at (now (line .entry)))) ⌝ }
+// The number that eight digits from `at` on write. Only speed explains the shape: the eight characters are put into one number,
+// a lane of eight bits for each and the first in the lowest, and all are worked on at once.
+fn number(line: &[u8], at: usize) -> u32
+    requires { ⌜ (at + 8 ≤ length (now line)) × (all hex.hexOf (take 8 (drop at (now line))) ≡ true) ⌝ }
+    ensures { λ r. ⌜ r ≡ hex.numberOf (take 8 (drop at (now (line .entry)))) ⌝ }
 {
-    let mut n: u32 = 0;
-    for i in 0..k {
-        let v = worth(line[at + i]);
-        n = n * 16 + v as u32;
+    let mut x: u64 = 0;
+    for k in 0..8 {
+        let b = line[at + 7 - k];
+        x = x * 0x100 + b as u64;
     }
-    n
+    // 1 in the lane of each letter: its character has the bit 6, and that of a figure has not.
+    let letters = (x / 64) & 0x0101_0101_0101_0101;
+    // What each digit is worth: 0 is 48, and A is 48 + 10 + 7.
+    let worths = x - 0x3030_3030_3030_3030 - 7 * letters;
+    // Each digit with the one after it, from the lane above: four numbers of two digits, then two of four, then one of eight.
+    let bytes = (worths * 0x10 + worths / 0x100) & 0x00ff_00ff_00ff_00ff;
+    let halves = (bytes * 0x100 + bytes / 0x1_0000) & 0x0000_ffff_0000_ffff;
+    ((halves * 0x1_0000 + halves / 0x1_0000_0000) & 0xffff_ffff) as u32
 }
 
 // Puts the `k` lowest digits of `x` at `at`.
@@ -118,28 +116,18 @@ fn put(line: &mut [u8], at: usize, k: usize, x: u32)
 
 // ---- a line to read
 
-// The greater of two numbers.
-fn greater(a: u8, b: u8) -> u8
-    ensures { λ r. ⌜ r ≡ max a b ⌝ }
-{
-    if a < b {
-        return b;
-    }
-    a
-}
-
-// Whether a line is 81 digits and a line feed. The greatest worth is found first, and tested once: a loop that never leaves is quicker.
+// Whether a line is 81 digits and a line feed. The loop never leaves, for speed: it is done many characters at a time.
 fn formed(line: &[u8]) -> bool
     ensures { λ r. ⌜ r ≡ frame.formedOf (now (line .entry)) ⌝ }
 {
     if line.len() != 82 {
         return false;
     }
-    let mut top: u8 = 0;
+    let mut ok = true;
     for i in 0..81 {
-        top = greater(top, value(line[i]));
+        ok = ok & is_hex(line[i]);
     }
-    if top < 16 {
+    if ok {
         return line[81] == 10;
     }
     false
@@ -152,7 +140,7 @@ fn acf_of(line: &[u8]) -> [i32; 9]
 {
     let mut acf = [0i32; 9];
     for i in 0..9 {
-        let x = number(line, 8 * i, 8);
+        let x = number(line, 8 * i);
         acf[i] = signed(x);
     }
     acf
@@ -163,21 +151,20 @@ fn scale_of(line: &[u8]) -> i16
     requires { ⌜ frame.formedOf (now line) ≡ true ⌝ }
     ensures { λ r. ⌜ r ≡ pos (frame.fieldAt 1 (drop 72 (now (line .entry))) 0) ⌝ }
 {
-    let x = number(line, 72, 1);
-    x as i16
+    worth(line[72]) as i16
 }
 
-// The four lags of a line.
+// The four lags of a line: eight digits, and so the four bytes of one number.
 fn lags_of(line: &[u8]) -> [u16; 4]
     requires { ⌜ frame.formedOf (now line) ≡ true ⌝ }
     ensures { λ r. ⌜ r ≡ row 4 (frame.fieldAt 2 (drop 73 (now (line .entry)))) ⌝ }
 {
-    let mut lags = [0u16; 4];
-    for i in 0..4 {
-        let x = number(line, 73 + 2 * i, 2);
-        lags[i] = x as u16;
-    }
-    lags
+    let x = number(line, 73);
+    let a = x / 0x100_0000;
+    let b = x / 0x1_0000 % 0x100;
+    let c = x / 0x100 % 0x100;
+    let d = x % 0x100;
+    [a as u16, b as u16, c as u16, d as u16]
 }
 
 // The answer to a refused line.
