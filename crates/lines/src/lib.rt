@@ -11,8 +11,24 @@ ghost use Rattle.rows.specs.Rows.{row, all};
 ghost use Rattle.lines.specs.Hex as hex;
 ghost use Rattle.lines.specs.Line as frame;
 ghost use Rattle.lines.specs.Answers as answer;
+use detector::LAGS;
+use detector::NUMBERS;
 use detector::frame_refusal;
 use operations::magnitude;
+use rows::four;
+use rows::nine;
+
+// A line's digits, and its bytes with the line feed.
+pub const DIGITS: usize = 81;
+
+pub const LINE: usize = 82;
+
+const LINE_FEED: u8 = 10;
+
+// Where the scale stands, and the first lag.
+const SCALE_AT: usize = 72;
+
+const LAGS_AT: usize = 73;
 
 // A line read: its refusal number, and its frame or zeros.
 pub struct Decoded {
@@ -120,15 +136,15 @@ fn put(line: &mut [u8], at: usize, k: usize, x: u32)
 fn formed(line: &[u8]) -> bool
     ensures { λ r. ⌜ r ≡ frame.formedOf (now (line .entry)) ⌝ }
 {
-    if line.len() != 82 {
+    if line.len() != LINE {
         return false;
     }
     let mut ok = true;
-    for i in 0..81 {
+    for i in 0..DIGITS {
         ok = ok & is_hex(line[i]);
     }
     if ok {
-        return line[81] == 10;
+        return line[DIGITS] == LINE_FEED;
     }
     false
 }
@@ -151,7 +167,7 @@ fn scale_of(line: &[u8]) -> i16
     requires { ⌜ frame.formedOf (now line) ≡ true ⌝ }
     ensures { λ r. ⌜ r ≡ pos (frame.fieldAt 1 (drop 72 (now (line .entry))) 0) ⌝ }
 {
-    worth(line[72]) as i16
+    worth(line[SCALE_AT]) as i16
 }
 
 // The four lags of a line: eight digits, and so the four bytes of one number.
@@ -159,7 +175,7 @@ fn lags_of(line: &[u8]) -> [u16; 4]
     requires { ⌜ frame.formedOf (now line) ≡ true ⌝ }
     ensures { λ r. ⌜ r ≡ row 4 (frame.fieldAt 2 (drop 73 (now (line .entry)))) ⌝ }
 {
-    let x = number(line, 73);
+    let x = number(line, LAGS_AT);
     let a = x / 0x100_0000;
     let b = x / 0x1_0000 % 0x100;
     let c = x / 0x100 % 0x100;
@@ -183,7 +199,7 @@ fn refused(n: u8) -> Decoded
 pub fn decode(line: &[u8]) -> Decoded
     ensures { λ r. ⌜ r ≡ answer.decodedOf (now (line .entry)) ⌝ }
 {
-    if formed(line) {} else {
+    if !formed(line) {
         return refused(6);
     }
     let acf = acf_of(line);
@@ -227,13 +243,13 @@ pub fn read(line: &[u8], acf: &mut [i32], lags: &mut [u16]) -> Heading
     ensures { λ r. ⌜ now (acf .exit) ≡ answer.acfAfter (now (acf .entry)) (now (lags .entry)) (now (line .entry)) ⌝ }
     ensures { λ r. ⌜ now (lags .exit) ≡ answer.lagsAfter (now (acf .entry)) (now (lags .entry)) (now (line .entry)) ⌝ }
 {
-    if acf.len() != 9 {
+    if acf.len() != NUMBERS {
         return Heading {
             refusal: 1,
             scale: 0,
         };
     }
-    if lags.len() != 4 {
+    if lags.len() != LAGS {
         return Heading {
             refusal: 1,
             scale: 0,
@@ -259,33 +275,9 @@ pub fn read(line: &[u8], acf: &mut [i32], lags: &mut [u16]) -> Heading
 
 // ---- a frame to write
 
-// The nine lent numbers, by value.
-fn copy_acf(from: &[i32]) -> [i32; 9]
-    requires { ⌜ length (now from) ≡ 9 ⌝ }
-    ensures { λ r. ⌜ r ≡ now (from .entry) ⌝ }
-{
-    let mut acf = [0i32; 9];
-    for i in 0..9 {
-        acf[i] = from[i];
-    }
-    acf
-}
-
-// The four lent lags, by value.
-fn copy_lags(from: &[u16]) -> [u16; 4]
-    requires { ⌜ length (now from) ≡ 4 ⌝ }
-    ensures { λ r. ⌜ r ≡ now (from .entry) ⌝ }
-{
-    let mut lags = [0u16; 4];
-    for i in 0..4 {
-        lags[i] = from[i];
-    }
-    lags
-}
-
 // Puts nine numbers at the head of a line.
 fn put_acf(line: &mut [u8], acf: [i32; 9])
-    requires { ⌜ length (now line) ≡ 82 ⌝ }
+    requires { ⌜ length (now line) ≡ frame.LINE ⌝ }
     ensures { λ r. ⌜ now (line .exit) ≡ hex.blocksOf 8 (map (ofZ w32) acf) ++ drop 72 (now (line .entry)) ⌝ }
 {
     for i in 0..9 {
@@ -296,25 +288,25 @@ fn put_acf(line: &mut [u8], acf: [i32; 9])
 
 // Puts four lags before a line's last byte.
 fn put_lags(line: &mut [u8], lags: [u16; 4])
-    requires { ⌜ length (now line) ≡ 82 ⌝ }
+    requires { ⌜ length (now line) ≡ frame.LINE ⌝ }
     ensures { λ r. ⌜ now (line .exit) ≡ take 73 (now (line .entry)) ++ hex.blocksOf 2 lags ++ drop (73 + 8) (now (line .entry)) ⌝ }
 {
     for i in 0..4 {
         let x = lags[i] as u32;
-        put(line, 73 + 2 * i, 2, x);
+        put(line, LAGS_AT + 2 * i, 2, x);
     }
 }
 
 // Puts a frame's line.
 fn put_line(line: &mut [u8], acf: [i32; 9], scale: i16, lags: [u16; 4])
-    requires { ⌜ length (now line) ≡ 82 ⌝ }
+    requires { ⌜ length (now line) ≡ frame.LINE ⌝ }
     ensures { λ r. ⌜ now (line .exit) ≡ frame.lineOf (record { acf = acf; scale = scale; lags = lags }) ⌝ }
 {
     put_acf(line, acf);
     let x = magnitude(scale as i32);
-    put(line, 72, 1, x);
+    put(line, SCALE_AT, 1, x);
     put_lags(line, lags);
-    line[81] = 10;
+    line[DIGITS] = LINE_FEED;
 }
 
 // Writes a frame into a lent line, or gives the first of 1, 2, 3, 4 that refuses it and leaves the line as it was.
@@ -322,17 +314,17 @@ pub fn write(acf: &[i32], lags: &[u16], scale: i16, line: &mut [u8]) -> u8
     ensures { λ r. ⌜ r ≡ answer.writeOf (record { acf = now (acf .entry); scale = scale; lags = now (lags .entry) }) (now (line .entry)) ⌝ }
     ensures { λ r. ⌜ now (line .exit) ≡ answer.lineAfter (record { acf = now (acf .entry); scale = scale; lags = now (lags .entry) }) (now (line .entry)) ⌝ }
 {
-    if acf.len() != 9 {
+    if acf.len() != NUMBERS {
         return 1;
     }
-    if lags.len() != 4 {
+    if lags.len() != LAGS {
         return 1;
     }
-    if line.len() != 82 {
+    if line.len() != LINE {
         return 1;
     }
-    let a = copy_acf(acf);
-    let g = copy_lags(lags);
+    let a = nine(acf);
+    let g = four(lags);
     let n = frame_refusal(a, g, scale);
     if n != 0 {
         return n;
