@@ -16,6 +16,13 @@ use Rattle.state.specs.Valid.{within, resetOf}
 use Rattle.detector.specs.declared.Answer.{Answer}
 use Rattle.detector.specs.Step.{stepOf}
 
+-- the numbers of a state, and of an answer
+abbrev pub RUN : ℕ
+RUN = 84
+
+abbrev pub ANSWER : ℕ
+ANSWER = 6
+
 -- ---- a state as a run
 -- 0..8 rvad, 9 normrvad, 10..36 L_sacf, 37 pt_sacf, 38..73 L_sav0, 74 pt_sav0, 75 lastdm, 76 e_thvad, 77 m_thvad, 78 adaptcount,
 -- 79 burstcount, 80 hangcount, 81 oldlagcount, 82 veryoldlagcount, 83 oldlag
@@ -86,14 +93,14 @@ answerOf a = answerRun (a .vad) (a .vvad) (a .acf0) (a .pvad)
 
 -- ---- lindenflax_reset: the number it answers, and the run it leaves
 unfoldable pub resetNumber : List ℤ → ℕ
-resetNumber run = IF eqb (length run) 84 THEN 0 ELSE 1
+resetNumber run = IF eqb (length run) RUN THEN 0 ELSE 1
 
 unfoldable pub resetRun : List ℤ → List ℤ
-resetRun run = IF eqb (length run) 84 THEN runOf resetOf ELSE run
+resetRun run = IF eqb (length run) RUN THEN runOf resetOf ELSE run
 
 -- ---- lindenflax_step: the lengths of what is lent to it, the number it answers, and the two runs it leaves
 unfoldable pub lengthsOf : List ℤ → List ℕ → List ℤ → List ℤ → Bool
-lengthsOf acf lags run answer = eqb (length acf) 9 && (eqb (length lags) 4 && (eqb (length run) 84 && eqb (length answer) 6))
+lengthsOf acf lags run answer = eqb (length acf) 9 && (eqb (length lags) 4 && (eqb (length run) RUN && eqb (length answer) ANSWER))
 
 unfoldable pub stepNumber : List ℤ → List ℕ → ℤ → List ℤ → List ℤ → ℕ
 stepNumber acf lags scale run answer =

@@ -6,7 +6,8 @@ ghost use Prim.Native.Nat.{_+_, _≤_};
 ghost use lib.ListN.{length, take, drop};
 ghost use Rattle.card.specs.Run as card;
 ghost use Rattle.card.specs.Lines as trace;
-use detector::Answer;
+use detector::LAGS;
+use detector::NUMBERS;
 use detector::step;
 use lines::read;
 use lines::write;
@@ -14,15 +15,20 @@ use pairs::Pair;
 use state::State;
 use state::within;
 
+// The numbers of a state, and of an answer. Which stands where is in specs/Run.antt.
+const RUN: usize = 84;
+
+const ANSWER: usize = 6;
+
 // ---- a state from a run
 
 // Whether each of the numbers from `first` on is one of 16 bits.
-fn shorts(run: [i32; 84], first: usize, count: usize) -> bool
-    requires { ⌜ first + count ≤ 84 ⌝ }
+fn shorts(run: [i32; RUN], first: usize, count: usize) -> bool
+    requires { ⌜ first + count ≤ card.RUN ⌝ }
     ensures { λ r. ⌜ r ≡ card.shortsOf (card.part first count run) ⌝ }
 {
     for i in 0..count {
-        if within(-32768, 32767, run[first + i]) {} else {
+        if !within(-32768, 32767, run[first + i]) {
             return false;
         }
     }
@@ -30,26 +36,26 @@ fn shorts(run: [i32; 84], first: usize, count: usize) -> bool
 }
 
 // Whether each number fits its field.
-fn narrow(run: [i32; 84]) -> bool
+fn narrow(run: [i32; RUN]) -> bool
     ensures { λ r. ⌜ r ≡ card.narrowOf run ⌝ }
 {
-    if shorts(run, 0, 10) {} else {
+    if !shorts(run, 0, 10) {
         return false;
     }
-    if shorts(run, 76, 7) {} else {
+    if !shorts(run, 76, 7) {
         return false;
     }
-    if within(0, 27, run[37]) {} else {
+    if !within(0, 27, run[37]) {
         return false;
     }
-    if within(0, 27, run[74]) {} else {
+    if !within(0, 27, run[74]) {
         return false;
     }
     within(0, 65535, run[83])
 }
 
 // The filter in a run.
-fn filter(run: [i32; 84]) -> [i16; 9]
+fn filter(run: [i32; RUN]) -> [i16; 9]
     requires { ⌜ card.narrowOf run ≡ true ⌝ }
     ensures { λ r. ⌜ r ≡ card.part 0 9 run ⌝ }
 {
@@ -61,7 +67,7 @@ fn filter(run: [i32; 84]) -> [i16; 9]
 }
 
 // The three frames in a run.
-fn frames(run: [i32; 84]) -> [i32; 27]
+fn frames(run: [i32; RUN]) -> [i32; 27]
     ensures { λ r. ⌜ r ≡ card.part 10 27 run ⌝ }
 {
     let mut out = [0i32; 27];
@@ -72,7 +78,7 @@ fn frames(run: [i32; 84]) -> [i32; 27]
 }
 
 // The four averages in a run.
-fn sums(run: [i32; 84]) -> [i32; 36]
+fn sums(run: [i32; RUN]) -> [i32; 36]
     ensures { λ r. ⌜ r ≡ card.part 38 36 run ⌝ }
 {
     let mut out = [0i32; 36];
@@ -83,7 +89,7 @@ fn sums(run: [i32; 84]) -> [i32; 36]
 }
 
 // The state in a run whose numbers fit.
-fn unpacked(run: [i32; 84]) -> State
+fn unpacked(run: [i32; RUN]) -> State
     requires { ⌜ card.narrowOf run ≡ true ⌝ }
     ensures { λ r. ⌜ r ≡ card.stateOf run ⌝ }
 {
@@ -114,7 +120,7 @@ fn unpacked(run: [i32; 84]) -> State
 // ---- a run from a state
 
 // A run with the filter in its place.
-fn with_filter(run: [i32; 84], rvad: [i16; 9]) -> [i32; 84]
+fn with_filter(run: [i32; RUN], rvad: [i16; 9]) -> [i32; RUN]
     ensures { λ r. ⌜ r ≡ take 0 run ++ rvad ++ drop (0 + 9) run ⌝ }
 {
     let mut out = run;
@@ -125,7 +131,7 @@ fn with_filter(run: [i32; 84], rvad: [i16; 9]) -> [i32; 84]
 }
 
 // A run with the three frames in their place.
-fn with_frames(run: [i32; 84], sacf: [i32; 27]) -> [i32; 84]
+fn with_frames(run: [i32; RUN], sacf: [i32; 27]) -> [i32; RUN]
     ensures { λ r. ⌜ r ≡ take 10 run ++ sacf ++ drop (10 + 27) run ⌝ }
 {
     let mut out = run;
@@ -136,7 +142,7 @@ fn with_frames(run: [i32; 84], sacf: [i32; 27]) -> [i32; 84]
 }
 
 // A run with the four averages in their place.
-fn with_sums(run: [i32; 84], sav0: [i32; 36]) -> [i32; 84]
+fn with_sums(run: [i32; RUN], sav0: [i32; 36]) -> [i32; RUN]
     ensures { λ r. ⌜ r ≡ take 38 run ++ sav0 ++ drop (38 + 36) run ⌝ }
 {
     let mut out = run;
@@ -147,7 +153,7 @@ fn with_sums(run: [i32; 84], sav0: [i32; 36]) -> [i32; 84]
 }
 
 // A state as a run.
-fn packed(s: State) -> [i32; 84]
+fn packed(s: State) -> [i32; RUN]
     requires { ⌜ (s .ptsacf ≤ 27) × (s .ptsav0 ≤ 27) ⌝ }
     ensures { λ r. ⌜ r ≡ card.runOf s ⌝ }
 {
@@ -156,7 +162,7 @@ fn packed(s: State) -> [i32; 84]
     let sav0 = s.sav0;
     let thvad = s.thvad;
     let lastdm = s.lastdm;
-    let a = with_filter([0i32; 84], rvad);
+    let a = with_filter([0i32; RUN], rvad);
     let b = with_frames(a, sacf);
     let mut out = with_sums(b, sav0);
     out[9] = s.normrvad as i32;
@@ -177,23 +183,23 @@ fn packed(s: State) -> [i32; 84]
 // ---- what is lent
 
 // The 84 numbers of a lent run, by value.
-fn taken(state: &[i32]) -> [i32; 84]
-    requires { ⌜ length (now state) ≡ 84 ⌝ }
+fn taken(state: &[i32]) -> [i32; RUN]
+    requires { ⌜ length (now state) ≡ card.RUN ⌝ }
     ensures { λ r. ⌜ r ≡ now (state .entry) ⌝ }
 {
-    let mut out = [0i32; 84];
-    for i in 0..84 {
+    let mut out = [0i32; RUN];
+    for i in 0..RUN {
         out[i] = state[i];
     }
     out
 }
 
 // Stores a run into a lent one.
-fn put(state: &mut [i32], run: [i32; 84])
-    requires { ⌜ length (now state) ≡ 84 ⌝ }
+fn put(state: &mut [i32], run: [i32; RUN])
+    requires { ⌜ length (now state) ≡ card.RUN ⌝ }
     ensures { λ _. ⌜ now (state .exit) ≡ run ⌝ }
 {
-    for i in 0..84 {
+    for i in 0..RUN {
         state[i] = run[i];
     }
 }
@@ -207,7 +213,7 @@ fn bit(flag: bool) -> i32
 
 // Stores an answer into a lent run.
 fn put_answer(answer: &mut [i32], vad: bool, vvad: bool, acf0: Pair, pvad: Pair)
-    requires { ⌜ length (now answer) ≡ 6 ⌝ }
+    requires { ⌜ length (now answer) ≡ card.ANSWER ⌝ }
     ensures { λ _. ⌜ now (answer .exit) ≡ card.answerRun vad vvad acf0 pvad ⌝ }
 {
     answer[0] = bit(vad);
@@ -226,7 +232,7 @@ pub extern "C" fn lindenflax_reset(state: &mut [i32]) -> u8
     ensures { λ r. ⌜ r ≡ card.resetNumber (now (state .entry)) ⌝ }
     ensures { λ _. ⌜ now (state .exit) ≡ card.resetRun (now (state .entry)) ⌝ }
 {
-    if state.len() != 84 {
+    if state.len() != RUN {
         return 1;
     }
     put(state, packed(State::reset()));
@@ -246,20 +252,20 @@ pub extern "C" fn lindenflax_step(
     ensures { λ _. ⌜ now (state .exit) ≡ card.stepRun (now (acf .entry)) (now (lags .entry)) scale (now (state .entry)) (now (answer .entry)) ⌝ }
     ensures { λ _. ⌜ now (answer .exit) ≡ card.stepAnswer (now (acf .entry)) (now (lags .entry)) scale (now (state .entry)) (now (answer .entry)) ⌝ }
 {
-    if acf.len() != 9 {
+    if acf.len() != NUMBERS {
         return 1;
     }
-    if lags.len() != 4 {
+    if lags.len() != LAGS {
         return 1;
     }
-    if state.len() != 84 {
+    if state.len() != RUN {
         return 1;
     }
-    if answer.len() != 6 {
+    if answer.len() != ANSWER {
         return 1;
     }
     let run = taken(state);
-    if narrow(run) {} else {
+    if !narrow(run) {
         return 5;
     }
     let a = step(acf, lags, scale, unpacked(run));

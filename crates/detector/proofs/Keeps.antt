@@ -4,7 +4,7 @@ use mathlib.Core.Path.{_≡_, refl, sym, ap, _∙_, subst}
 use mathlib.Core.Bool.{Bool, true, false}
 use mathlib.Core.List.{List}
 use mathlib.Core.Logic.{_⊎_, inl, inr}
-use Prim.Native.Nat.{ℕ, zero, suc, _+_, _*_, _%_, _^_, _<_, _≤_}
+use Prim.Native.Nat.{ℕ, zero, suc, _+_, _*_, _<_, _≤_}
 use native.Mathlib.Omega.{arith}
 use lib.Dec.{T, ltb, eqb}
 use borrow.Author.Tests.{ltb-true, ltb-false, eqb-true, eqb-false}
@@ -13,27 +13,23 @@ use lib.ListN.{length, getD, List·getD-eq-default}
 use lib.Signed.{leZ, _≤ℤ_}
 use mir.Syntax.{w32}
 use mir.Val.{SFits}
-use Rattle.numbers.specs.Sum.{at, total}
+use Rattle.numbers.specs.Sum.{at}
 use Rattle.numbers.proofs.Parts.{zarith, of, sign, le-yes}
 use Rattle.rows.specs.Rows.{all}
 use Rattle.rows.proofs.Choice.{and-left, and-right, either, by-test, eqZ-is, eqZ-yes}
 use Rattle.rows.proofs.All.{all-at}
 use Rattle.rows.specs.Choice.{eqZ}
-use Rattle.pairs.specs.declared.Pair.{Pair}
 use Rattle.pairs.specs.Pairs.{greaterOf}
-use Rattle.pairs.proofs.Range.{Mantissa, Ranged}
 use Rattle.energy.specs.Energy.{energyOf}
 use Rattle.energy.specs.declared.Energies.{Energies}
 use Rattle.energy.proofs.Range.{Frame, Filter, energy-loud}
 use Rattle.averages.specs.Averages.{averageOf}
 use Rattle.averages.proofs.Pointers.{Pointer}
 use Rattle.averages.proofs.Kept.{Kept27, Kept36, kept27, kept36, Incoming, average-keeps}
-use Rattle.predictor.specs.Filter.{predictedOf}
-use Rattle.predictor.proofs.Bounds.{Whitening, predicted-whitening}
-use Rattle.lags.specs.Lags.{lagcountOf}
+use Rattle.predictor.proofs.Bounds.{predicted-whitening}
 use Rattle.lags.proofs.Range.{lagcount-le}
 use Rattle.threshold.specs.declared.Kept.{Kept}
-use Rattle.threshold.specs.Threshold.{PTH, adaptOf}
+use Rattle.threshold.specs.Threshold.{adaptOf}
 use Rattle.threshold.proofs.Range.{Sound, adapt-keeps, adapt-filter}
 use Rattle.hangover.specs.Hangover.{hangoverOf}
 use Rattle.hangover.proofs.Kept.{Counts, hangover-keeps}
@@ -42,9 +38,9 @@ use Rattle.state.specs.Valid.{validOf, weightOf, lagOk, within, Between, Valid,
 use Rattle.state.proofs.Facts.{valid, valid-back, between, le-fact, lag}
 use Rattle.detector.specs.declared.Middle.{Middle}
 use Rattle.detector.specs.declared.Answer.{Answer}
-use Rattle.detector.specs.Refusal.{lengthsOk, scaleOk, acfOk, lagsOk, refusalOf}
+use Rattle.detector.specs.Refusal.{scaleOk, acfOk, lagsOk, refusalOf}
 use Rattle.detector.specs.Step.{spectralOf, unmovedOf, movedOf, acceptedOf, stepOf}
-use Rattle.detector.proofs.Table.{number-0, step-accepted, step-refused, refused-answer, nine, four}
+use Rattle.detector.proofs.Table.{number-0, step-accepted, refused-answer, nine, four}
 
 -- the lent numbers are of 32 bits
 abbrev pub Numbers : List ℤ → Type 0

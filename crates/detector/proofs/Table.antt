@@ -1,7 +1,7 @@
 -- The number of a refusal is exactly document 01's table: each number is given exactly when its row's condition holds and none of a row checked
 -- before it does. And a refusal answers with flags 0, energies 0 in both parts, and the state as given. Assumes nothing.
 use mathlib.Core.Path.{_≡_, refl, sym, ap, _∙_, subst}
-use mathlib.Core.Bool.{Bool, true, false, _&&_}
+use mathlib.Core.Bool.{Bool, true, false}
 use mathlib.Core.List.{List}
 use mathlib.Core.Logic.{_↔_}
 use Prim.Native.Nat.{ℕ}

@@ -1,5 +1,5 @@
 -- One frame: clauses 6.1 to 6.9 in their order, and the answer for every input. Assumes nothing.
-use mathlib.Core.Bool.{Bool, false}
+use mathlib.Core.Bool.{false}
 use mathlib.Core.List.{List}
 use Prim.Native.Nat.{ℕ}
 use lib.Dec.{eqb}
@@ -7,7 +7,6 @@ use lib.IntN.{ℤ, pos}
 use lib.ListN.{getD}
 use Rattle.numbers.specs.Sum.{at}
 use Rattle.rows.specs.Choice.{IF_THEN_ELSE_, eqZ}
-use Rattle.pairs.specs.declared.Pair.{Pair}
 use Rattle.pairs.specs.Pairs.{pair, greaterOf}
 use Rattle.energy.specs.Energy.{energyOf}
 use Rattle.averages.specs.Averages.{averageOf}

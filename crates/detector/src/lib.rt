@@ -1,6 +1,5 @@
 // The voice activity detector of GSM 06.32 on the uplink: one frame, the state before it, and the answer with the state after it.
 ghost use mathlib.Core.Path.{_≡_};
-ghost use lib.ListN.{length};
 ghost use Rattle.detector.specs.Refusal as table;
 ghost use Rattle.detector.specs.Step as clause;
 use averages::average;
@@ -12,6 +11,8 @@ use operations::magnitude;
 use pairs::Pair;
 use pairs::greater;
 use predictor::predicted;
+use rows::four;
+use rows::nine;
 use spectrum::compare;
 use state::State;
 use state::lag_ok;
@@ -19,6 +20,11 @@ use state::short_within;
 use state::state_ok;
 use threshold::Kept;
 use threshold::adapt;
+
+// A frame's autocorrelations and lags, as many as are lent.
+pub const NUMBERS: usize = 9;
+
+pub const LAGS: usize = 4;
 
 // The answer to a frame.
 pub struct Answer {
@@ -44,26 +50,6 @@ struct Middle {
 
 // ---- refusals
 
-// The nine numbers, by value.
-fn nine(acf: &[i32]) -> [i32; 9]
-    requires { ⌜ length (now acf) ≡ 9 ⌝ }
-    ensures { λ r. ⌜ r ≡ now (acf .entry) ⌝ }
-{
-    let mut out = [0i32; 9];
-    for i in 0..9 {
-        out[i] = acf[i];
-    }
-    out
-}
-
-// The four lags, by value.
-fn four(lags: &[u16]) -> [u16; 4]
-    requires { ⌜ length (now lags) ≡ 4 ⌝ }
-    ensures { λ r. ⌜ r ≡ now (lags .entry) ⌝ }
-{
-    [lags[0], lags[1], lags[2], lags[3]]
-}
-
 // Whether no number is larger in magnitude than the first, which is not negative.
 fn acf_ok(acf: [i32; 9]) -> bool
     ensures { λ r. ⌜ r ≡ table.acfOk acf ⌝ }
@@ -86,7 +72,7 @@ fn lags_ok(lags: [u16; 4]) -> bool
     ensures { λ r. ⌜ r ≡ table.lagsOk lags ⌝ }
 {
     for i in 0..4 {
-        if lag_ok(lags[i]) {} else {
+        if !lag_ok(lags[i]) {
             return false;
         }
     }
@@ -97,10 +83,10 @@ fn lags_ok(lags: [u16; 4]) -> bool
 pub fn frame_refusal(acf: [i32; 9], lags: [u16; 4], scalvad: i16) -> u8
     ensures { λ r. ⌜ r ≡ table.frameRefusalOf acf lags scalvad ⌝ }
 {
-    if short_within(0, 4, scalvad) {} else {
+    if !short_within(0, 4, scalvad) {
         return 2;
     }
-    if acf_ok(acf) {} else {
+    if !acf_ok(acf) {
         return 3;
     }
     if lags_ok(lags) {
@@ -113,10 +99,10 @@ pub fn frame_refusal(acf: [i32; 9], lags: [u16; 4], scalvad: i16) -> u8
 fn refusal(acf: &[i32], lags: &[u16], scalvad: i16, s: State) -> u8
     ensures { λ r. ⌜ r ≡ table.refusalOf (now (acf .entry)) (now (lags .entry)) scalvad s ⌝ }
 {
-    if acf.len() != 9 {
+    if acf.len() != NUMBERS {
         return 1;
     }
-    if lags.len() != 4 {
+    if lags.len() != LAGS {
         return 1;
     }
     if state_ok(s) {
@@ -127,7 +113,7 @@ fn refusal(acf: &[i32], lags: &[u16], scalvad: i16, s: State) -> u8
 
 // ---- the clauses
 
-// 6.2 to 6.4.
+// What 6.2 to 6.4 leave behind of a frame: the histories, the filter of the average, and whether the spectrum is stationary.
 fn spectral(acf: [i32; 9], scalvad: i16, s: State) -> Middle
     ensures { λ r. ⌜ r ≡ clause.spectralOf acf scalvad s ⌝ }
 {
@@ -154,7 +140,7 @@ fn spectral(acf: [i32; 9], scalvad: i16, s: State) -> Middle
     }
 }
 
-// What stays where they are not run.
+// The same where they are not run: what was there before.
 fn unmoved(s: State) -> Middle
     ensures { λ r. ⌜ r ≡ clause.unmovedOf s ⌝ }
 {
@@ -173,7 +159,7 @@ fn unmoved(s: State) -> Middle
     }
 }
 
-// 6.2 to 6.4, but for an all-zero frame.
+// The same of any frame: 6.2 to 6.4 are not run for an all-zero frame.
 fn moved(acf: [i32; 9], scalvad: i16, s: State) -> Middle
     ensures { λ r. ⌜ r ≡ clause.movedOf acf scalvad s ⌝ }
 {

@@ -1,12 +1,8 @@
 -- The hangover keeps its counts in range: burstcount 0..3, hangcount -1..5 (and at most 4 after a frame). Assumes nothing.
-use mathlib.Core.Path.{_≡_}
-use mathlib.Core.Bool.{Bool, true, false}
-use native.Mathlib.Omega.{arith}
-use lib.IntN.{ℤ, pos, negsuc, _+ℤ_, _-ℤ_}
+use mathlib.Core.Bool.{Bool}
+use lib.IntN.{ℤ, pos, negsuc}
 use lib.Signed.{leZ, _≤ℤ_}
-use mir.Syntax.{w16}
-use mir.Val.{SFits}
-use Rattle.numbers.proofs.Parts.{zarith, of, plus, minus, same, le-yes, le-no}
+use Rattle.numbers.proofs.Parts.{zarith, of, plus, minus, same, le-no}
 use Rattle.operations.specs.Operations.{add, sub}
 use Rattle.operations.proofs.Laws.{add-exact, sub-exact}
 use Rattle.rows.specs.Choice.{IF_THEN_ELSE_}

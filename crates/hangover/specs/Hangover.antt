@@ -1,5 +1,5 @@
 -- Clause 6.8, VAD hangover addition, line by line. Assumes nothing.
-use mathlib.Core.Bool.{Bool, true, false}
+use mathlib.Core.Bool.{Bool, true}
 use lib.IntN.{ℤ, pos}
 use lib.Signed.{leZ}
 use Rattle.operations.specs.Operations.{add, sub}

@@ -53,7 +53,7 @@ fn started(vvad: bool, burstcount: i16, hangcount: i16) -> Hung
     run_down(vvad, burstcount, hangcount)
 }
 
-// 6.8 for a frame with the raw decision vvad.
+// The flag of a frame with the raw decision vvad, and the two counts after it.
 pub fn hangover(vvad: bool, burstcount: i16, hangcount: i16) -> Hung
     ensures { λ r. ⌜ r ≡ hangoverOf vvad burstcount hangcount ⌝ }
 {

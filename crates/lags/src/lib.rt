@@ -1,8 +1,8 @@
 // Clauses 6.5 and 6.9: how often a lag of the frame is near a multiple of the one before it.
 ghost use mathlib.Core.Path.{_≡_};
-ghost use Prim.Native.Nat.{min};
 ghost use lib.IntN.{pos};
 ghost use Rattle.lags.specs.Lags.{ptchOf, smallagOf, countedOf, onceOf, lagcountOf};
+use rows::lesser;
 
 // 6.5: whether the two frames before were periodic.
 pub fn ptch(oldlagcount: i16, veryoldlagcount: i16) -> bool
@@ -27,19 +27,12 @@ fn smallag(oldlag: u16, lag: u16) -> u16
     oldlag % lag
 }
 
-// The lesser of two lags.
-fn lesser(a: u16, b: u16) -> u16
-    ensures { λ r. ⌜ r ≡ min a b ⌝ }
-{
-    if a < b { a } else { b }
-}
-
 // Whether a lag counts beside the one before it.
 fn counted(oldlag: u16, lag: u16) -> bool
     ensures { λ r. ⌜ r ≡ countedOf oldlag lag ⌝ }
 {
-    let small = smallag(oldlag, lag);
-    let least = lesser(oldlag, lag);
+    let small = smallag(oldlag, lag) as usize;
+    let least = lesser(oldlag as usize, lag as usize);
     if small < 2 {
         return true;
     }

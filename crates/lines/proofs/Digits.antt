@@ -5,12 +5,12 @@ use mathlib.Core.Bool.{Bool, true, false}
 use mathlib.Core.List.{List, [], _∷_, _++_}
 use Prim.Native.Nat.{ℕ, zero, suc, _+_, _-_, _*_, _/_, _%_, _^_, _<_, _≤_}
 use native.Mathlib.Omega.{arith}
-use native.Mathlib.Numerals.{add-one}
+use native.Mathlib.Nat.{add-zero, add-suc, mul-assoc}
 use lib.Dec.{ltb, leb}
 use borrow.Author.Tests.{ltb-true, ltb-false, leb-true, lt-ltb, le-ltb, le-leb, lt-leb}
 use lib.ListN.{length, getD, take, drop, length-append, length-take, length-drop}
-use lib.Seq.{take-suc, getD-take, getD-drop}
-use lib.Pow.{pow-mono, pow-add}
+use lib.Seq.{take-suc, getD-take, getD-drop, drop-cons}
+use lib.Pow.{pow-add}
 use Rattle.rows.specs.Choice.{IF_THEN_ELSE_}
 use Rattle.rows.specs.Rows.{all}
 use Rattle.rows.proofs.All.{all-at}
@@ -91,6 +91,16 @@ number-suc k l h = ap numberOf (take-suc l k 0 h) ∙ number-snoc (take k l) (ge
 pub pow-suc : (k : ℕ) → 2 ^ (4 * suc k) ≡ 2 ^ (4 * k) * 16
 pow-suc k = let e : 4 * suc k ≡ 4 * k + 4 = omega arith in rw e (pow-add 2 (4 * k) 4)
 
+-- k digits more
+pub number-more : (j k : ℕ) (l : List ℕ) → j + k ≤ length l → numberOf (take (j + k) l) ≡ numberOf (take j l) * 2 ^ (4 * k) + numberOf (take k (drop j l))
+unfolding numberOf numberFrom
+number-more j zero l h = rw (add-zero j) (omega arith)
+number-more j (suc k) l h =
+    let i = number-more j k l (omega arith) in
+    let s = number-suc (j + k) l (omega arith) in
+    let t = number-suc k (drop j l) (simp length-drop (omega arith)) ∙ ap (λ (b : ℕ). numberOf (take k (drop j l)) * 16 + valueOf b) (getD-drop j l k 0) in
+    rw (add-suc j k, pow-suc k) (omega (arith, i, s, t, mul-assoc (numberOf (take j l)) (2 ^ (4 * k)) 16))
+
 -- ---- both ways round, for any number of digits
 pub number-lt : (k : ℕ) (l : List ℕ) → k ≤ length l → all hexOf l ≡ true → numberOf (take k l) < 2 ^ (4 * k)
 unfolding numberOf numberFrom
@@ -138,21 +148,13 @@ module _ (s : List ℕ) (at k : ℕ) (fits : at + k ≤ length s) where
   pub part-length : length (take k (drop at s)) ≡ k
   part-length = simp (length-take, length-drop) (omega arith)
 
-  pub part-next : (i : ℕ) → i < k → numberOf (take (i + 1) (take k (drop at s))) ≡ numberOf (take i (take k (drop at s))) * 16 + valueOf (getD s (at + i) 0)
-  part-next i h =
-      let e = part-length in
-      rw (add-one i) (number-suc i (take k (drop at s)) (omega arith)
-      ∙ ap (λ (b : ℕ). numberOf (take i (take k (drop at s))) * 16 + valueOf b) (getD-take k (drop at s) i 0 h ∙ getD-drop at s i 0))
-
-  pub part-room : (i : ℕ) → i < k → k ≤ 8 → all hexOf (take k (drop at s)) ≡ true → numberOf (take i (take k (drop at s))) < 2 ^ 28
-  part-room i h k8 e =
-      let q = part-length in
-      let b = number-lt i (take k (drop at s)) (omega arith) e in
-      let m : 4 * i ≤ 28 = omega arith in
-      let p = pow-mono m in omega arith
-
-  pub part-hex : (i : ℕ) → i < k → all hexOf (take k (drop at s)) ≡ true → valueOf (getD s (at + i) 0) < 16
+  pub part-hex : (i : ℕ) → i < k → all hexOf (take k (drop at s)) ≡ true → hexOf (getD s (at + i) 0) ≡ true
   part-hex i h e =
       let q = part-length in
       let g = getD-take k (drop at s) i 0 h ∙ getD-drop at s i 0 in
-      rw g at (hex-value (getD (take k (drop at s)) i 0) (all-at hexOf (take k (drop at s)) i 0 e (omega arith)))
+      rw g at (all-at hexOf (take k (drop at s)) i 0 e (omega arith))
+
+-- one digit is its worth
+pub digit-at : (s : List ℕ) (at : ℕ) → at < length s → numberOf (take 1 (drop at s)) ≡ valueOf (getD s at 0)
+unfolding numberOf numberFrom
+digit-at s at h = ap (λ (l : List ℕ). numberOf (take 1 l)) (drop-cons s at 0 h) ∙ omega arith

@@ -1,5 +1,6 @@
 pub mod Tests
 pub mod Digits
+pub mod Lanes
 pub mod Bits
 pub mod Back
 pub mod Fields

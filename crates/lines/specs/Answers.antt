@@ -8,7 +8,7 @@ use lib.IntN.{ℤ, pos}
 use lib.ListN.{length, replicate}
 use Rattle.rows.specs.Choice.{IF_THEN_ELSE_}
 use Rattle.detector.specs.Refusal.{lengthsOk, frameRefusalOf}
-use Rattle.lines.specs.Line.{Frame, frameOf, lineOf, formedOf}
+use Rattle.lines.specs.Line.{Frame, LINE, frameOf, lineOf, formedOf}
 use Rattle.lines.specs.declared.Decoded.{Decoded}
 use Rattle.lines.specs.declared.Heading.{Heading}
 
@@ -50,7 +50,7 @@ lagsAfter acf lags l = IF eqb (readOf acf lags l .refusal) 0 THEN frameOf l .lag
 -- ---- a frame to write, into a lent line
 
 unfoldable pub writeOf : Frame → List ℕ → ℕ
-writeOf f l = IF lengthsOk (f .acf) (f .lags) && eqb (length l) 82 THEN rangesOf f ELSE 1
+writeOf f l = IF lengthsOk (f .acf) (f .lags) && eqb (length l) LINE THEN rangesOf f ELSE 1
 
 -- what the lent line holds afterwards
 unfoldable pub lineAfter : Frame → List ℕ → List ℕ

@@ -16,6 +16,13 @@ pub record Frame : Type 0 where
   pub scale : ℤ
   pub lags : List ℕ
 
+-- a line's digits, and its bytes with the line feed
+abbrev pub DIGITS : ℕ
+DIGITS = 81
+
+abbrev pub LINE : ℕ
+LINE = 82
+
 -- the number i of a text of numbers of k digits
 unfoldable pub fieldAt : ℕ → List ℕ → ℕ → ℕ
 fieldAt k l i = numberOf (take k (drop (k * i) l))
@@ -34,4 +41,4 @@ lineOf f = blocksOf 8 (map (ofZ w32) (f .acf)) ++ digitsOf 1 (natAbs (f .scale))
 
 -- a line is well formed: 81 digits and a line feed
 unfoldable pub formedOf : List ℕ → Bool
-formedOf l = eqb (length l) 82 && (all hexOf (take 81 l) && eqb (getD l 81 0) 10)
+formedOf l = eqb (length l) LINE && (all hexOf (take DIGITS l) && eqb (getD l DIGITS 0) 10)

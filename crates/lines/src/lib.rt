@@ -2,7 +2,7 @@
 ghost use mathlib.Core.Path.{_≡_};
 ghost use mathlib.Core.Bool.{true};
 ghost use mathlib.Core.List.{_++_, map};
-ghost use Prim.Native.Nat.{_+_, _≤_, _<_, max};
+ghost use Prim.Native.Nat.{_+_, _≤_, _<_};
 ghost use lib.IntN.{pos};
 ghost use lib.ListN.{length, take, drop};
 ghost use mir.Syntax.{w32};
@@ -11,8 +11,24 @@ ghost use Rattle.rows.specs.Rows.{row, all};
 ghost use Rattle.lines.specs.Hex as hex;
 ghost use Rattle.lines.specs.Line as frame;
 ghost use Rattle.lines.specs.Answers as answer;
+use detector::LAGS;
+use detector::NUMBERS;
 use detector::frame_refusal;
 use operations::magnitude;
+use rows::four;
+use rows::nine;
+
+// A line's digits, and its bytes with the line feed.
+pub const DIGITS: usize = 81;
+
+pub const LINE: usize = 82;
+
+const LINE_FEED: u8 = 10;
+
+// Where the scale stands, and the first lag.
+const SCALE_AT: usize = 72;
+
+const LAGS_AT: usize = 73;
 
 // A line read: its refusal number, and its frame or zeros.
 pub struct Decoded {
@@ -29,25 +45,6 @@ pub struct Heading {
 }
 
 // ---- digits
-
-// What a character is worth as a digit, 16 where it is none.
-fn value(b: u8) -> u8
-    ensures { λ r. ⌜ r ≡ hex.valueOf b ⌝ }
-{
-    if b < 48 {
-        return 16;
-    }
-    if b <= 57 {
-        return b - 48;
-    }
-    if b < 65 {
-        return 16;
-    }
-    if b <= 70 {
-        return b - 55;
-    }
-    16
-}
 
 // The character of a number below 16.
 fn digit(n: u8) -> u8
@@ -80,25 +77,42 @@ fn pattern(z: i32) -> u32
     z as u32
 }
 
-// What a digit is worth, with no branch: 65 is A, and 65 % 16 + 9 is 10.
+// Whether a character is a digit. A byte below its range wraps to one beyond it, so that there is no branch, for speed.
+fn is_hex(b: u8) -> bool
+    ensures { λ r. ⌜ r ≡ hex.hexOf b ⌝ }
+{
+    let figure = std::num::wrapping_sub_u8(b, 48) < 10;
+    let letter = std::num::wrapping_sub_u8(b, 65) < 6;
+    figure | letter
+}
+
+// What a digit is worth: 65 is A, and 65 % 16 + 9 is 10.
 fn worth(b: u8) -> u8
-    requires { ⌜ hex.valueOf b < 16 ⌝ }
+    requires { ⌜ hex.hexOf b ≡ true ⌝ }
     ensures { λ r. ⌜ r ≡ hex.valueOf b ⌝ }
 {
     b % 16 + 9 * (b / 64)
 }
 
-// The number that `k` digits from `at` on write.
-fn number(line: &[u8], at: usize, k: usize) -> u32
-    requires { ⌜ (k ≤ 8) × (at + k ≤ length (now line)) × (all hex.hexOf (take k (drop at (now line))) ≡ true) ⌝ }
-    ensures { λ r. ⌜ r ≡ hex.numberOf (take k (drop at (now (line .entry)))) ⌝ }
+// The number that eight digits from `at` on write. Only speed explains the shape: the eight characters are put into one number,
+// a lane of eight bits for each and the first in the lowest, and all are worked on at once.
+fn number(line: &[u8], at: usize) -> u32
+    requires { ⌜ (at + 8 ≤ length (now line)) × (all hex.hexOf (take 8 (drop at (now line))) ≡ true) ⌝ }
+    ensures { λ r. ⌜ r ≡ hex.numberOf (take 8 (drop at (now (line .entry)))) ⌝ }
 {
-    let mut n: u32 = 0;
-    for i in 0..k {
-        let v = worth(line[at + i]);
-        n = n * 16 + v as u32;
+    let mut x: u64 = 0;
+    for k in 0..8 {
+        let b = line[at + 7 - k];
+        x = x * 0x100 + b as u64;
     }
-    n
+    // 1 in the lane of each letter: its character has the bit 6, and that of a figure has not.
+    let letters = (x / 64) & 0x0101_0101_0101_0101;
+    // What each digit is worth: 0 is 48, and A is 48 + 10 + 7.
+    let worths = x - 0x3030_3030_3030_3030 - 7 * letters;
+    // Each digit with the one after it, from the lane above: four numbers of two digits, then two of four, then one of eight.
+    let bytes = (worths * 0x10 + worths / 0x100) & 0x00ff_00ff_00ff_00ff;
+    let halves = (bytes * 0x100 + bytes / 0x1_0000) & 0x0000_ffff_0000_ffff;
+    ((halves * 0x1_0000 + halves / 0x1_0000_0000) & 0xffff_ffff) as u32
 }
 
 // Puts the `k` lowest digits of `x` at `at`.
@@ -118,29 +132,19 @@ fn put(line: &mut [u8], at: usize, k: usize, x: u32)
 
 // ---- a line to read
 
-// The greater of two numbers.
-fn greater(a: u8, b: u8) -> u8
-    ensures { λ r. ⌜ r ≡ max a b ⌝ }
-{
-    if a < b {
-        return b;
-    }
-    a
-}
-
-// Whether a line is 81 digits and a line feed. The greatest worth is found first, and tested once: a loop that never leaves is quicker.
+// Whether a line is 81 digits and a line feed. The loop never leaves, for speed: it is done many characters at a time.
 fn formed(line: &[u8]) -> bool
     ensures { λ r. ⌜ r ≡ frame.formedOf (now (line .entry)) ⌝ }
 {
-    if line.len() != 82 {
+    if line.len() != LINE {
         return false;
     }
-    let mut top: u8 = 0;
-    for i in 0..81 {
-        top = greater(top, value(line[i]));
+    let mut ok = true;
+    for i in 0..DIGITS {
+        ok = ok & is_hex(line[i]);
     }
-    if top < 16 {
-        return line[81] == 10;
+    if ok {
+        return line[DIGITS] == LINE_FEED;
     }
     false
 }
@@ -152,7 +156,7 @@ fn acf_of(line: &[u8]) -> [i32; 9]
 {
     let mut acf = [0i32; 9];
     for i in 0..9 {
-        let x = number(line, 8 * i, 8);
+        let x = number(line, 8 * i);
         acf[i] = signed(x);
     }
     acf
@@ -163,21 +167,20 @@ fn scale_of(line: &[u8]) -> i16
     requires { ⌜ frame.formedOf (now line) ≡ true ⌝ }
     ensures { λ r. ⌜ r ≡ pos (frame.fieldAt 1 (drop 72 (now (line .entry))) 0) ⌝ }
 {
-    let x = number(line, 72, 1);
-    x as i16
+    worth(line[SCALE_AT]) as i16
 }
 
-// The four lags of a line.
+// The four lags of a line: eight digits, and so the four bytes of one number.
 fn lags_of(line: &[u8]) -> [u16; 4]
     requires { ⌜ frame.formedOf (now line) ≡ true ⌝ }
     ensures { λ r. ⌜ r ≡ row 4 (frame.fieldAt 2 (drop 73 (now (line .entry)))) ⌝ }
 {
-    let mut lags = [0u16; 4];
-    for i in 0..4 {
-        let x = number(line, 73 + 2 * i, 2);
-        lags[i] = x as u16;
-    }
-    lags
+    let x = number(line, LAGS_AT);
+    let a = x / 0x100_0000;
+    let b = x / 0x1_0000 % 0x100;
+    let c = x / 0x100 % 0x100;
+    let d = x % 0x100;
+    [a as u16, b as u16, c as u16, d as u16]
 }
 
 // The answer to a refused line.
@@ -196,7 +199,7 @@ fn refused(n: u8) -> Decoded
 pub fn decode(line: &[u8]) -> Decoded
     ensures { λ r. ⌜ r ≡ answer.decodedOf (now (line .entry)) ⌝ }
 {
-    if formed(line) {} else {
+    if !formed(line) {
         return refused(6);
     }
     let acf = acf_of(line);
@@ -240,13 +243,13 @@ pub fn read(line: &[u8], acf: &mut [i32], lags: &mut [u16]) -> Heading
     ensures { λ r. ⌜ now (acf .exit) ≡ answer.acfAfter (now (acf .entry)) (now (lags .entry)) (now (line .entry)) ⌝ }
     ensures { λ r. ⌜ now (lags .exit) ≡ answer.lagsAfter (now (acf .entry)) (now (lags .entry)) (now (line .entry)) ⌝ }
 {
-    if acf.len() != 9 {
+    if acf.len() != NUMBERS {
         return Heading {
             refusal: 1,
             scale: 0,
         };
     }
-    if lags.len() != 4 {
+    if lags.len() != LAGS {
         return Heading {
             refusal: 1,
             scale: 0,
@@ -272,33 +275,9 @@ pub fn read(line: &[u8], acf: &mut [i32], lags: &mut [u16]) -> Heading
 
 // ---- a frame to write
 
-// The nine lent numbers, by value.
-fn copy_acf(from: &[i32]) -> [i32; 9]
-    requires { ⌜ length (now from) ≡ 9 ⌝ }
-    ensures { λ r. ⌜ r ≡ now (from .entry) ⌝ }
-{
-    let mut acf = [0i32; 9];
-    for i in 0..9 {
-        acf[i] = from[i];
-    }
-    acf
-}
-
-// The four lent lags, by value.
-fn copy_lags(from: &[u16]) -> [u16; 4]
-    requires { ⌜ length (now from) ≡ 4 ⌝ }
-    ensures { λ r. ⌜ r ≡ now (from .entry) ⌝ }
-{
-    let mut lags = [0u16; 4];
-    for i in 0..4 {
-        lags[i] = from[i];
-    }
-    lags
-}
-
 // Puts nine numbers at the head of a line.
 fn put_acf(line: &mut [u8], acf: [i32; 9])
-    requires { ⌜ length (now line) ≡ 82 ⌝ }
+    requires { ⌜ length (now line) ≡ frame.LINE ⌝ }
     ensures { λ r. ⌜ now (line .exit) ≡ hex.blocksOf 8 (map (ofZ w32) acf) ++ drop 72 (now (line .entry)) ⌝ }
 {
     for i in 0..9 {
@@ -309,25 +288,25 @@ fn put_acf(line: &mut [u8], acf: [i32; 9])
 
 // Puts four lags before a line's last byte.
 fn put_lags(line: &mut [u8], lags: [u16; 4])
-    requires { ⌜ length (now line) ≡ 82 ⌝ }
+    requires { ⌜ length (now line) ≡ frame.LINE ⌝ }
     ensures { λ r. ⌜ now (line .exit) ≡ take 73 (now (line .entry)) ++ hex.blocksOf 2 lags ++ drop (73 + 8) (now (line .entry)) ⌝ }
 {
     for i in 0..4 {
         let x = lags[i] as u32;
-        put(line, 73 + 2 * i, 2, x);
+        put(line, LAGS_AT + 2 * i, 2, x);
     }
 }
 
 // Puts a frame's line.
 fn put_line(line: &mut [u8], acf: [i32; 9], scale: i16, lags: [u16; 4])
-    requires { ⌜ length (now line) ≡ 82 ⌝ }
+    requires { ⌜ length (now line) ≡ frame.LINE ⌝ }
     ensures { λ r. ⌜ now (line .exit) ≡ frame.lineOf (record { acf = acf; scale = scale; lags = lags }) ⌝ }
 {
     put_acf(line, acf);
     let x = magnitude(scale as i32);
-    put(line, 72, 1, x);
+    put(line, SCALE_AT, 1, x);
     put_lags(line, lags);
-    line[81] = 10;
+    line[DIGITS] = LINE_FEED;
 }
 
 // Writes a frame into a lent line, or gives the first of 1, 2, 3, 4 that refuses it and leaves the line as it was.
@@ -335,17 +314,17 @@ pub fn write(acf: &[i32], lags: &[u16], scale: i16, line: &mut [u8]) -> u8
     ensures { λ r. ⌜ r ≡ answer.writeOf (record { acf = now (acf .entry); scale = scale; lags = now (lags .entry) }) (now (line .entry)) ⌝ }
     ensures { λ r. ⌜ now (line .exit) ≡ answer.lineAfter (record { acf = now (acf .entry); scale = scale; lags = now (lags .entry) }) (now (line .entry)) ⌝ }
 {
-    if acf.len() != 9 {
+    if acf.len() != NUMBERS {
         return 1;
     }
-    if lags.len() != 4 {
+    if lags.len() != LAGS {
         return 1;
     }
-    if line.len() != 82 {
+    if line.len() != LINE {
         return 1;
     }
-    let a = copy_acf(acf);
-    let g = copy_lags(lags);
+    let a = nine(acf);
+    let g = four(lags);
     let n = frame_refusal(a, g, scale);
     if n != 0 {
         return n;

@@ -1,6 +1,6 @@
 -- A choice by its test, and the test of equality. Assumes nothing.
 use mathlib.Core.Path.{_≡_, refl, sym, subst}
-use mathlib.Core.Bool.{Bool, true, false, _&&_}
+use mathlib.Core.Bool.{Bool, true, false, not, _&&_}
 use native.Mathlib.Omega.{arith}
 use lib.Dec.{T}
 use lib.IntN.{ℤ}
@@ -19,6 +19,15 @@ and-right false b e = absurd (subst T (sym e) tt)
 
 pub both : {a b : Bool} → a ≡ true → b ≡ true → a && b ≡ true
 both p q = rw p q
+
+-- ---- a test turned round
+pub not-true : {a : Bool} → not a ≡ true → a ≡ false
+not-true {a = true} e = sym e
+not-true {a = false} e = refl
+
+pub not-false : {a : Bool} → not a ≡ false → a ≡ true
+not-false {a = true} e = refl
+not-false {a = false} e = sym e
 
 -- ---- a choice
 pub by-yes {ℓ} : {A : Type ℓ} {t : Bool} (x y : A) → t ≡ true → (IF t THEN x ELSE y) ≡ x

@@ -12,7 +12,7 @@ use lib.IntN.{ℤ, pos}
 use lib.ListN.{length, getD, take, drop, set, length-append, List·getD-append, List·getD-eq-default}
 use Rattle.numbers.specs.Sum.{at}
 use lib.Seq.{take-suc, take-suc-set, take-all, paste, paste-suc, getD-append-add, getD-drop}
-use Rattle.rows.specs.Rows.{row}
+use Rattle.rows.specs.Rows.{row, firstOf}
 use Rattle.rows.proofs.Choice.{either}
 
 module _ {ℓ} {A : Type ℓ} where
@@ -49,6 +49,15 @@ module _ {ℓ} {A : Type ℓ} where
 
   pub copy-all : (l s : List A) (n i : ℕ) → length l ≡ n → length s ≡ n → i ≡ n → take i l ≡ take i s → l ≡ s
   copy-all l s n i h k e p = sym (whole l n h) ∙ (subst (λ (m : ℕ). take m l ≡ take m s) e p ∙ whole s n k)
+
+  -- ---- the first n entries of a row of n are the row
+  pub first-take : (n : ℕ) (l : List A) (z : A) → n ≤ length l → firstOf n z l ≡ take n l
+  unfolding firstOf row
+  first-take zero l z h = refl
+  first-take (suc n) l z h = ap (λ (k : List A). k ++ (getD l n z ∷ [])) (first-take n l z (omega arith)) ∙ sym (take-suc l n z h)
+
+  pub first-whole : (n : ℕ) (l : List A) (z : A) → length l ≡ n → firstOf n z l ≡ l
+  first-whole n l z h = first-take n l z (omega arith) ∙ whole l n h
 
   -- ---- s stored into d from p on, entry by entry
   pub store-more : (l d : List A) (p : ℕ) (s : List A) (i : ℕ) (v z : A) → p + i < length d → i < length s → l ≡ paste d p s i → v ≡ getD s i z → set l (p + i) v ≡ paste d p s (i + 1)

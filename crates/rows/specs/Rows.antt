@@ -3,7 +3,7 @@ use mathlib.Core.Bool.{Bool, true, false, _&&_}
 use mathlib.Core.List.{List, [], _∷_, _++_}
 use Prim.Native.Nat.{ℕ, zero, suc, min}
 use lib.IntN.{ℤ, pos}
-use lib.ListN.{length}
+use lib.ListN.{length, getD}
 use Rattle.numbers.specs.Sum.{at}
 use Rattle.operations.specs.Operations.{L-add, L-mult}
 
@@ -11,6 +11,10 @@ use Rattle.operations.specs.Operations.{L-add, L-mult}
 unfoldable pub row {ℓ} : {A : Type ℓ} → ℕ → (ℕ → A) → List A
 row zero f = []
 row (suc n) f = row n f ++ (f n ∷ [])
+
+-- the first n entries, and z for those that a shorter row does not have
+unfoldable pub firstOf {ℓ} : {A : Type ℓ} → ℕ → A → List A → List A
+firstOf n z l = row n (λ i. getD l i z)
 
 -- the test holds of each entry
 unfoldable pub all {ℓ} : {A : Type ℓ} → (A → Bool) → List A → Bool

@@ -1,16 +1,15 @@
 -- A state passes the test of validity exactly when the facts of validity hold of it; and a state after a reset is valid. Assumes nothing.
 use mathlib.Core.Path.{_≡_, refl, sym, subst}
-use mathlib.Core.Bool.{Bool, true, false, _&&_}
+use mathlib.Core.Bool.{Bool, true, _&&_}
 use mathlib.Core.List.{List}
-use Prim.Native.Nat.{ℕ, suc, _+_, _*_, _%_, _<_, _≤_}
-use native.Mathlib.Omega.{arith}
-use lib.Dec.{T, leb, eqb, ltb}
+use Prim.Native.Nat.{ℕ, _+_, _*_, _%_, _≤_}
+use lib.Dec.{leb, eqb, ltb}
 use borrow.Author.Tests.{leb-true, le-leb, eqb-true, eq-eqb, ltb-true, ltb-false}
 use lib.IntN.{ℤ, natAbs, pos, negsuc}
 use lib.ListN.{length, List·getD-eq-default}
 use lib.Signed.{leZ, _≤ℤ_}
 use Rattle.numbers.specs.Sum.{at, total}
-use Rattle.numbers.proofs.Parts.{zarith, le-yes, le-true, le-rec}
+use Rattle.numbers.proofs.Parts.{zarith}
 use Rattle.rows.specs.Rows.{row, all}
 use Rattle.rows.proofs.Choice.{and-left, and-right, both, either}
 use Rattle.rows.proofs.All.{all-at, all-each}

@@ -4,6 +4,11 @@ ghost use Rattle.state.specs.Valid as valid;
 use operations::magnitude;
 use pairs::Pair;
 
+// The last places of the two pointers: the last of three frames, and of four sums.
+const LAST_SACF: usize = 18;
+
+const LAST_SAV0: usize = 27;
+
 // What is kept from frame to frame. A valid state's ranges are those of specs/Valid.antt.
 pub struct State {
     pub rvad: [i16; 9],
@@ -83,7 +88,7 @@ fn sacf_within(sacf: [i32; 27]) -> bool
     ensures { λ r. ⌜ r ≡ valid.sacfWithin sacf ⌝ }
 {
     for i in 0..27 {
-        if within(-536870912, 536870911, sacf[i]) {} else {
+        if !within(-536870912, 536870911, sacf[i]) {
             return false;
         }
     }
@@ -168,19 +173,19 @@ pub fn lag_ok(lag: u16) -> bool
 fn counts_ok(s: State) -> bool
     ensures { λ r. ⌜ r ≡ valid.countsOk s ⌝ }
 {
-    if short_within(0, 9, s.adaptcount) {} else {
+    if !short_within(0, 9, s.adaptcount) {
         return false;
     }
-    if short_within(0, 3, s.burstcount) {} else {
+    if !short_within(0, 3, s.burstcount) {
         return false;
     }
-    if short_within(-1, 5, s.hangcount) {} else {
+    if !short_within(-1, 5, s.hangcount) {
         return false;
     }
-    if short_within(0, 4, s.oldlagcount) {} else {
+    if !short_within(0, 4, s.oldlagcount) {
         return false;
     }
-    if short_within(0, 4, s.veryoldlagcount) {} else {
+    if !short_within(0, 4, s.veryoldlagcount) {
         return false;
     }
     lag_ok(s.oldlag)
@@ -190,29 +195,29 @@ fn counts_ok(s: State) -> bool
 pub fn state_ok(s: State) -> bool
     ensures { λ r. ⌜ r ≡ valid.validOf s ⌝ }
 {
-    if pointer_ok(18, s.ptsacf) {} else {
+    if !pointer_ok(LAST_SACF, s.ptsacf) {
         return false;
     }
-    if pointer_ok(27, s.ptsav0) {} else {
+    if !pointer_ok(LAST_SAV0, s.ptsav0) {
         return false;
     }
     let sacf = s.sacf;
-    if sacf_ok(sacf) {} else {
+    if !sacf_ok(sacf) {
         return false;
     }
     let sav0 = s.sav0;
-    if sav0_ok(sav0) {} else {
+    if !sav0_ok(sav0) {
         return false;
     }
     let rvad = s.rvad;
-    if rvad_ok(rvad) {} else {
+    if !rvad_ok(rvad) {
         return false;
     }
-    if short_within(2, 9, s.normrvad) {} else {
+    if !short_within(2, 9, s.normrvad) {
         return false;
     }
     let thvad = s.thvad;
-    if thvad_ok(thvad) {} else {
+    if !thvad_ok(thvad) {
         return false;
     }
     counts_ok(s)

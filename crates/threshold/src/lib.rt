@@ -116,7 +116,7 @@ fn adapted(thvad: Pair, pvad: Pair) -> Pair
     at_most(margin(pvad), low)
 }
 
-// 6.6.
+// What is kept after a frame: the threshold and the filter are learned from a run of frames that hold no speech.
 pub fn adapt(
     acf0: Pair,
     pvad: Pair,
@@ -142,7 +142,7 @@ pub fn adapt(
         next.adaptcount = 0;
         return next;
     }
-    if stat {} else {
+    if !stat {
         next.adaptcount = 0;
         return next;
     }

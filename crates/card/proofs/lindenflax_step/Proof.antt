@@ -6,6 +6,7 @@ use native.Mathlib.Omega.{arith}
 use Rattle.numbers.proofs.Read.{zreads}
 use Rattle.detector.specs.declared.Answer.{Answer}
 use Rattle.detector.specs.Step.{stepOf}
+use Rattle.rows.proofs.Choice.{not-true, not-false}
 use Rattle.card.specs.Run.{runOf, stateOf, narrowOf, answerOf, lengthsOf, stepNumber}
 use Rattle.card.proofs.Pointed.{accepted-0, next-in}
 use Rattle.card.proofs.Answers.{all-lengths, no-acf, no-lags, no-run, no-answer, number-1, number-5, number-of, refused, done-run, done-answer}
@@ -32,7 +33,7 @@ answer-is c =
 number-is : (c : tie.After-step) → let s = c .before .before .before .before .before .before .before .before .before .before .before in stepNumber (s .args .acf .now) (s .args .lags .now) (s .args .scale) (s .args .state .now) (s .args .answer .now) ≡ c .step .result .refusal
 number-is c =
     let s = c .before .before .before .before .before .before .before .before .before .before .before in
-    number-of (s .args .acf .now) (s .args .lags .now) (s .args .scale) (s .args .state .now) (s .args .answer .now) (lengths (c .before .before .before .before .before .before)) (narrow-is (c .before .before .before) ∙ c .before .before .if5 .taken) ∙ ap (λ (r : Answer). r .refusal) (sym (answer-is c))
+    number-of (s .args .acf .now) (s .args .lags .now) (s .args .scale) (s .args .state .now) (s .args .answer .now) (lengths (c .before .before .before .before .before .before)) (narrow-is (c .before .before .before) ∙ not-false (c .before .before .if5 .left)) ∙ ap (λ (r : Answer). r .refusal) (sym (answer-is c))
 
 returns : tie.Need-returns
 returns c =
@@ -66,10 +67,10 @@ same-length c = search needs
 returns-5 : tie.Need-returns-5
 returns-5 c =
     let s = c .before .before .before .before .before .before .before .before .before in
-    refused (s .args .acf .now) (s .args .lags .now) (s .args .scale) (s .args .state .now) (s .args .answer .now) 5 (number-5 (s .args .acf .now) (s .args .lags .now) (s .args .scale) (s .args .state .now) (s .args .answer .now) (lengths (c .before .before .before .before)) (narrow-is (c .before) ∙ c .if5 .left)) (λ e. omega arith)
+    refused (s .args .acf .now) (s .args .lags .now) (s .args .scale) (s .args .state .now) (s .args .answer .now) 5 (number-5 (s .args .acf .now) (s .args .lags .now) (s .args .scale) (s .args .state .now) (s .args .answer .now) (lengths (c .before .before .before .before)) (narrow-is (c .before) ∙ not-true (c .if5 .taken))) (λ e. omega arith)
 
 unpacked-requires : tie.Need-unpacked-requires
-unpacked-requires c κs = sym (c .before .narrow .ensures) ∙ c .if5 .taken
+unpacked-requires c κs = sym (c .before .narrow .ensures) ∙ not-false (c .if5 .left)
 
 step-requires : tie.Need-step-requires
 step-requires c κs = search needs

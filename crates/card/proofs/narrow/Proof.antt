@@ -6,6 +6,7 @@ use mir.Syntax.{w32}
 use Rattle.numbers.specs.Sum.{at}
 use Rattle.numbers.proofs.Read.{ranged, zreads}
 use Rattle.state.specs.Valid.{within}
+use Rattle.rows.proofs.Choice.{not-true, not-false}
 use Rattle.card.specs.Run.{narrowOf}
 use Rattle.card.proofs.narrow.Statement.{statement}
 use Rattle.card.proofs.narrow.Tie as tie
@@ -25,14 +26,14 @@ shorts-requires c κs = search needs
 
 returns : tie.Need-returns
 unfolding narrowOf
-returns c = rw (sym (c .before .shorts .ensures) ∙ c .if1 .left)
+returns c = rw (sym (c .before .shorts .ensures) ∙ not-true (c .if1 .taken))
 
 shorts-requires-2 : tie.Need-shorts-requires-2
 shorts-requires-2 c κs = search needs
 
 returns-2 : tie.Need-returns-2
 unfolding narrowOf
-returns-2 c = rw (sym (c .before .before .before .shorts .ensures) ∙ c .before .before .if1 .taken, sym (c .before .shorts2 .ensures) ∙ c .if2 .left)
+returns-2 c = rw (sym (c .before .before .before .shorts .ensures) ∙ not-false (c .before .before .if1 .left), sym (c .before .shorts2 .ensures) ∙ not-true (c .if2 .taken))
 
 array-copy-out-within : tie.Need-array-copy-out-within
 array-copy-out-within c = search needs
@@ -44,9 +45,9 @@ returns-3 : tie.Need-returns-3
 unfolding narrowOf
 returns-3 c =
     rw (
-      sym (c .before .before .before .before .before .before .shorts .ensures) ∙ c .before .before .before .before .before .if1 .taken,
-      sym (c .before .before .before .before .shorts2 .ensures) ∙ c .before .before .before .if2 .taken,
-      sacf-is (c .before) ∙ c .if3 .left,
+      sym (c .before .before .before .before .before .before .shorts .ensures) ∙ not-false (c .before .before .before .before .before .if1 .left),
+      sym (c .before .before .before .before .shorts2 .ensures) ∙ not-false (c .before .before .before .if2 .left),
+      sacf-is (c .before) ∙ not-true (c .if3 .taken),
     )
 
 array-copy-out-within-2 : tie.Need-array-copy-out-within-2
@@ -59,10 +60,10 @@ returns-4 : tie.Need-returns-4
 unfolding narrowOf
 returns-4 c =
     rw (
-      sym (c .before .before .before .before .before .before .before .before .before .shorts .ensures) ∙ c .before .before .before .before .before .before .before .before .if1 .taken,
-      sym (c .before .before .before .before .before .before .before .shorts2 .ensures) ∙ c .before .before .before .before .before .before .if2 .taken,
-      sacf-is (c .before .before .before .before) ∙ c .before .before .before .if3 .taken,
-      sav0-is (c .before) ∙ c .if4 .left,
+      sym (c .before .before .before .before .before .before .before .before .before .shorts .ensures) ∙ not-false (c .before .before .before .before .before .before .before .before .if1 .left),
+      sym (c .before .before .before .before .before .before .before .shorts2 .ensures) ∙ not-false (c .before .before .before .before .before .before .if2 .left),
+      sacf-is (c .before .before .before .before) ∙ not-false (c .before .before .before .if3 .left),
+      sav0-is (c .before) ∙ not-true (c .if4 .taken),
     )
 
 array-copy-out-within-3 : tie.Need-array-copy-out-within-3
@@ -75,10 +76,10 @@ returns-5 : tie.Need-returns-5
 unfolding narrowOf
 returns-5 c =
     rw (
-      sym (c .before .before .before .before .before .before .before .before .before .before .before .shorts .ensures) ∙ c .before .before .before .before .before .before .before .before .before .before .if1 .taken,
-      sym (c .before .before .before .before .before .before .before .before .before .shorts2 .ensures) ∙ c .before .before .before .before .before .before .before .before .if2 .taken,
-      sacf-is (c .before .before .before .before .before .before) ∙ c .before .before .before .before .before .if3 .taken,
-      sav0-is (c .before .before .before) ∙ c .before .before .if4 .taken,
+      sym (c .before .before .before .before .before .before .before .before .before .before .before .shorts .ensures) ∙ not-false (c .before .before .before .before .before .before .before .before .before .before .if1 .left),
+      sym (c .before .before .before .before .before .before .before .before .before .shorts2 .ensures) ∙ not-false (c .before .before .before .before .before .before .before .before .if2 .left),
+      sacf-is (c .before .before .before .before .before .before) ∙ not-false (c .before .before .before .before .before .if3 .left),
+      sav0-is (c .before .before .before) ∙ not-false (c .before .before .if4 .left),
     )
     (sym (lag-is c))
 

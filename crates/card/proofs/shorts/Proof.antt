@@ -12,6 +12,7 @@ use mathlib.Core.Bool.{Bool}
 use Rattle.rows.specs.Rows.{all}
 use Rattle.rows.proofs.All.{all-yes, all-no, all-end}
 use Rattle.state.specs.Valid.{within}
+use Rattle.rows.proofs.Choice.{not-true, not-false}
 use Rattle.card.specs.Run.{part, shortsOf}
 use Rattle.card.proofs.Parted.{part-length, part-at}
 use Rattle.card.proofs.shorts.Statement.{statement}
@@ -61,7 +62,7 @@ returns c =
     let n = a .before .args .count in
     let h : f + n ≤ length l = omega (arith, a .loop .inv .1, a .before .pre) in
     let e = tested w in
-    sym (a .loop .inv .2 ∙ all-no Short (part f n l) (a .loop .i) (pos 0) (omega (arith, part-length f n l h)) (e ∙ c .if1 .left))
+    sym (a .loop .inv .2 ∙ all-no Short (part f n l) (a .loop .i) (pos 0) (omega (arith, part-length f n l h)) (e ∙ not-true (c .if1 .taken)))
 
 add-i : tie.Need-add-i Inv-loop μ-loop
 add-i c = search needs
@@ -80,7 +81,7 @@ loop-again c =
     let e = tested w in (
       omega arith,
       a .loop .inv .1,
-      a .loop .inv .2 ∙ all-yes Short (part f n l) (a .loop .i) (pos 0) (omega (arith, part-length f n l h)) (e ∙ c .if1 .taken),
+      a .loop .inv .2 ∙ all-yes Short (part f n l) (a .loop .i) (pos 0) (omega (arith, part-length f n l h)) (e ∙ not-false (c .if1 .left)),
     )
 
 returns-2 : tie.Need-returns-2 Inv-loop μ-loop

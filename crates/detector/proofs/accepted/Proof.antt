@@ -1,14 +1,11 @@
 -- `detector::accepted` runs the clauses in their order: each call gives what its definition says of what the calls before it gave. Assumes nothing.
 use borrow.Author.Needs.{needs}
 use mathlib.Core.Path.{_≡_}
-use lib.IntN.{pos}
-use lib.ListN.{getD}
 use mir.Syntax.{w16, w32}
 use mir.Val.{SFits}
 use Rattle.numbers.proofs.Read.{ranged, zreads}
-use Rattle.pairs.specs.Pairs.{greaterOf}
 use Rattle.energy.specs.Energy.{energyOf}
-use Rattle.lags.specs.Lags.{ptchOf, lagcountOf}
+use Rattle.lags.specs.Lags.{ptchOf}
 use Rattle.threshold.specs.Threshold.{adaptOf}
 use Rattle.threshold.specs.declared.Kept.{Kept}
 use Rattle.hangover.specs.Hangover.{hangoverOf}

@@ -1,12 +1,13 @@
 -- `detector::lags_ok` tests each lag from the front: what is left to test decides. Assumes nothing.
 use borrow.Author.Needs.{needs}
 use mathlib.Core.Path.{_≡_, refl, sym, _∙_}
-use Prim.Native.Nat.{ℕ, _-_, _<_, _≤_}
+use Prim.Native.Nat.{_-_, _<_, _≤_}
 use native.Mathlib.Omega.{arith}
-use lib.ListN.{length, getD, drop}
+use lib.ListN.{length, drop}
 use Rattle.rows.specs.Rows.{all}
 use Rattle.rows.proofs.All.{all-yes, all-no, all-end}
 use Rattle.state.specs.Valid.{lagOk}
+use Rattle.rows.proofs.Choice.{not-true, not-false}
 use Rattle.detector.specs.Refusal.{lagsOk}
 use Rattle.detector.proofs.lags_ok.Statement.{statement}
 use Rattle.detector.proofs.lags_ok.Tie as tie
@@ -35,7 +36,7 @@ returns c =
     let a = c .before .before .before in
     let l = a .before .args .t1 in
     let in-row : a .loop .i < length l = omega arith in
-    sym (sym (a .loop .inv .1) ∙ all-no lagOk l (a .loop .i) 0 in-row (sym (c .before .lag-ok .ensures) ∙ c .if1 .left))
+    sym (sym (a .loop .inv .1) ∙ all-no lagOk l (a .loop .i) 0 in-row (sym (c .before .lag-ok .ensures) ∙ not-true (c .if1 .taken)))
 
 add-i : tie.Need-add-i Inv-loop μ-loop
 add-i c = search needs
@@ -48,7 +49,7 @@ loop-again c =
     let a = c .before .before .before in
     let l = a .before .args .t1 in
     let in-row : a .loop .i < length l = omega arith in
-    (omega arith, sym (all-yes lagOk l (a .loop .i) 0 in-row (sym (c .before .lag-ok .ensures) ∙ c .if1 .taken)) ∙ a .loop .inv .1)
+    (omega arith, sym (all-yes lagOk l (a .loop .i) 0 in-row (sym (c .before .lag-ok .ensures) ∙ not-false (c .if1 .left))) ∙ a .loop .inv .1)
 
 returns-2 : tie.Need-returns-2 Inv-loop μ-loop
 returns-2 c =

@@ -1,9 +1,7 @@
 -- `detector::moved` leaves 6.2 to 6.4 out for an all-zero frame. Assumes nothing.
 use borrow.Author.Needs.{needs}
-use mathlib.Core.Path.{_≡_, sym, _∙_}
-use lib.IntN.{pos}
+use mathlib.Core.Path.{sym, _∙_}
 use mir.Syntax.{w32}
-use mir.Val.{SFits}
 use mir.Facts.{sfits-lit}
 use Rattle.numbers.specs.Sum.{at}
 use Rattle.numbers.proofs.Read.{ranged, same-bits, other-bits, zreads}

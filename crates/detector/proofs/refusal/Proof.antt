@@ -5,9 +5,10 @@ use mathlib.Core.Bool.{true}
 use mathlib.Core.List.{List}
 use Prim.Native.Nat.{ℕ}
 use borrow.Author.Tests.{eq-eqb, ne-eqb}
-use lib.IntN.{ℤ}
+use lib.IntN.{ℤ, pos}
 use Rattle.numbers.proofs.Read.{zreads}
 use Rattle.rows.specs.Choice.{IF_THEN_ELSE_}
+use Rattle.rows.proofs.Fill.{first-whole}
 use Rattle.detector.specs.Refusal.{lengthsOk, frameRefusalOf, refusalOf}
 use Rattle.detector.proofs.refusal.Statement.{statement}
 use Rattle.detector.proofs.refusal.Tie as tie
@@ -43,8 +44,8 @@ returns-3 c =
     let e = c .before .before .before .before .before in
     let g = c .before .before .before .before .before .before .before .before .args in
     let f = c .before .before .before .before .before .before .before .before .fits .scalvad in
-    let n = c .before .before .nine .ensures in
-    let k = c .before .four .ensures in
+    let n = c .before .before .nine .ensures ∙ first-whole 9 (g .acf .now) (pos 0) (e .before .if1 .left) in
+    let k = c .before .four .ensures ∙ first-whole 4 (g .lags .now) 0 (e .if2 .left) in
     rw (lengths e, sym (t .before .state-ok .ensures) ∙ t .if3 .taken)
     ((simp zreads at (c .frame-refusal .ensures)) ∙ ap₂ (λ (x : List ℤ) (y : List ℕ). frameRefusalOf x y (g .scalvad)) n k)
 

@@ -5,7 +5,6 @@ use mir.Syntax.{w16, w32}
 use mir.Val.{SFits}
 use Rattle.numbers.proofs.Read.{zreads}
 use Rattle.averages.specs.Averages.{averageOf}
-use Rattle.predictor.specs.Filter.{predictedOf}
 use Rattle.spectrum.specs.Spectrum.{compareOf}
 use Rattle.detector.specs.Step.{spectralOf}
 use Rattle.detector.proofs.spectral.Statement.{statement}

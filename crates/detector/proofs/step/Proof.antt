@@ -4,10 +4,11 @@ use mathlib.Core.Path.{_≡_, sym, ap, ap₂, _∙_}
 use mathlib.Core.List.{List}
 use Prim.Native.Nat.{ℕ}
 use mathlib.Core.Bool.{true}
-use lib.IntN.{ℤ}
+use lib.IntN.{ℤ, pos}
 use borrow.Author.Tests.{eq-eqb, ne-eqb}
 use Rattle.numbers.proofs.Read.{zreads}
 use Rattle.rows.specs.Choice.{IF_THEN_ELSE_}
+use Rattle.rows.proofs.Fill.{first-whole}
 use Rattle.detector.specs.Refusal.{lengthsOk, refusalOf}
 use Rattle.detector.specs.Step.{acceptedOf, refusedOf, stepOf}
 use Rattle.detector.proofs.Table.{number-0, nine, four}
@@ -27,10 +28,10 @@ refusal-requires : tie.Need-refusal-requires
 refusal-requires c κs = search needs
 
 nine-requires : tie.Need-nine-requires
-nine-requires c κs = nine _ _ (lengths c)
+nine-requires c κs = search needs
 
 four-requires : tie.Need-four-requires
-four-requires c κs = four _ _ (lengths (c .before))
+four-requires c κs = search needs
 
 accepted-requires : tie.Need-accepted-requires
 accepted-requires c κs = search needs
@@ -44,7 +45,7 @@ returns c =
     let a = c .before .before .before .before .before .before .args in
     let f = c .before .before .before .before .before .before .fits .scalvad in
     let e : c .accepted .result ≡ acceptedOf (n .nine .result) (c .before .four .result) (a .scalvad) (a .s) = simp zreads at (c .accepted .ensures) in
-    rw (eq-eqb _ 0 (sym (number-is r) ∙ t .if1 .taken)) (e ∙ ap₂ (λ (x : List ℤ) (y : List ℕ). acceptedOf x y (a .scalvad) (a .s)) (n .nine .ensures) (c .before .four .ensures))
+    rw (eq-eqb _ 0 (sym (number-is r) ∙ t .if1 .taken)) (e ∙ ap₂ (λ (x : List ℤ) (y : List ℕ). acceptedOf x y (a .scalvad) (a .s)) (n .nine .ensures ∙ first-whole 9 (a .acf .now) (pos 0) (nine _ _ (lengths t))) (c .before .four .ensures ∙ first-whole 4 (a .lags .now) 0 (four _ _ (lengths t))))
 
 refused-requires : tie.Need-refused-requires
 refused-requires c κs = search needs

@@ -3,7 +3,7 @@ use borrow.Author.Needs.{needs}
 use mathlib.Core.Path.{_≡_, ap, _∙_}
 use lib.IntN.{ℤ}
 use mir.Syntax.{w16}
-use Rattle.numbers.proofs.Read.{back, ranged, zreads}
+use Rattle.numbers.proofs.Read.{ranged, zreads}
 use Rattle.hangover.specs.Hangover.{burstOf, startedOf, hangoverOf}
 use Rattle.hangover.proofs.hangover.Statement.{statement}
 use Rattle.hangover.proofs.hangover.Tie as tie

@@ -6,7 +6,7 @@ use lib.IntN.{pos}
 use lib.Signed.{leZ}
 use mir.Syntax.{w16}
 use Rattle.numbers.proofs.Parts.{zarith}
-use Rattle.numbers.proofs.Read.{back, ranged, zreads}
+use Rattle.numbers.proofs.Read.{ranged, zreads}
 use Rattle.operations.specs.Operations.{sub}
 use Rattle.rows.specs.Choice.{IF_THEN_ELSE_}
 use Rattle.hangover.specs.Hangover.{runDownOf}

@@ -1,6 +1,5 @@
 -- `hangover::started` starts the hangover anew after a long burst. Assumes nothing.
 use borrow.Author.Needs.{needs}
-use mathlib.Core.Path.{_≡_}
 use Rattle.numbers.proofs.Read.{zreads}
 use Rattle.rows.specs.Choice.{IF_THEN_ELSE_}
 use Rattle.hangover.specs.Hangover.{startedOf}

@@ -1,8 +1,7 @@
 -- `lags::counted` tests the lesser of the two distances from a multiple. Assumes nothing.
 use borrow.Author.Needs.{needs}
-use mathlib.Core.Path.{_≡_, sym, ap, ap₂, _∙_}
-use mathlib.Core.Bool.{true}
-use Prim.Native.Nat.{ℕ, _-_, _<_, _≤_, min}
+use mathlib.Core.Path.{_≡_, sym, ap₂, _∙_}
+use Prim.Native.Nat.{ℕ, _-_, _≤_, min}
 use native.Mathlib.Omega.{arith}
 use lib.Dec.{ltb}
 use borrow.Author.Tests.{lt-ltb, le-ltb, ltb-true, ltb-false}
@@ -22,6 +21,9 @@ module _ (c : tie.After-lesser) where
 
 smallag-requires : tie.Need-smallag-requires
 smallag-requires c κs = search needs
+
+cast-small : tie.Need-cast-small
+cast-small c = search needs
 
 lesser-requires : tie.Need-lesser-requires
 lesser-requires c κs = search needs
@@ -52,4 +54,4 @@ returns-3 c =
     other r (s - r) (omega arith) ∙ sym (is (c .before .before))
 
 pub counted-spec : {M : Type 1} → statement M
-counted-spec = tie.close (tie.spec smallag-requires lesser-requires returns returns-2 returns-3)
+counted-spec = tie.close (tie.spec smallag-requires cast-small lesser-requires returns returns-2 returns-3)

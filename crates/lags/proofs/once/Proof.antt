@@ -1,6 +1,6 @@
 -- `lags::once` is 1 for a lag that counts. Assumes nothing.
 use borrow.Author.Needs.{needs}
-use mathlib.Core.Path.{_≡_, sym, _∙_}
+use mathlib.Core.Path.{sym, _∙_}
 use Rattle.rows.specs.Choice.{IF_THEN_ELSE_}
 use Rattle.lags.specs.Lags.{onceOf}
 use Rattle.lags.proofs.once.Statement.{statement}

@@ -1,5 +1,4 @@
 -- `lags::ptch` adds the two counts at 32 bits, where the sum fits. Assumes nothing.
-use mathlib.Core.Path.{_≡_}
 use lib.IntN.{ℤ, _+ℤ_}
 use mir.Syntax.{w16, w32}
 use mir.Val.{SFits}

@@ -1,7 +1,7 @@
 -- `lags::smallag` gives the remainder of the larger lag by the smaller; a lag of 0 is never divided by. Assumes nothing.
 use borrow.Author.Needs.{needs}
 use mathlib.Core.Path.{_≡_, sym, ap, ap₂, _∙_}
-use Prim.Native.Nat.{ℕ, _%_, _<_, _≤_, max, min}
+use Prim.Native.Nat.{ℕ, _%_, max, min}
 use native.Mathlib.Nat.{mod-zero}
 use native.Mathlib.Omega.{arith}
 use Rattle.lags.specs.Lags.{smallagOf}

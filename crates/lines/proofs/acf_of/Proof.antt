@@ -32,7 +32,7 @@ number-requires c κs =
     let t = c .before in
     let a = t .before .before in
     let f = formed (a .args .line .now) (a .pre) in
-    (omega arith, omega (arith, f .size), field-hex (a .args .line .now) (a .pre) (8 * t .loop .i) 8 (omega arith))
+    (omega (arith, f .size), field-hex (a .args .line .now) (a .pre) (8 * t .loop .i) 8 (omega arith))
 
 signed-requires : tie.Need-signed-requires Inv-loop μ-loop
 signed-requires c κs = search needs

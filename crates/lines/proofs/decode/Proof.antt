@@ -4,6 +4,7 @@ use mathlib.Core.Path.{_≡_, sym, ap, _∙_}
 use mathlib.Core.Bool.{true}
 use native.Mathlib.Omega.{arith}
 use Rattle.numbers.proofs.Read.{zreads}
+use Rattle.rows.proofs.Choice.{not-true, not-false}
 use Rattle.lines.specs.Line.{Frame, frameOf, formedOf}
 use Rattle.lines.specs.Answers.{rangesOf, refusedOf, acceptedOf}
 use Rattle.lines.proofs.Answers.{decoded-malformed, decoded-refused, decoded-accepted}
@@ -19,10 +20,10 @@ refused-requires c κs = search needs
 returns : tie.Need-returns
 returns c =
     let s = c .before .before .before .before .args .line .now in
-    c .refused .ensures ∙ sym (decoded-malformed s (sym (c .before .before .formed .ensures) ∙ c .before .if1 .left))
+    c .refused .ensures ∙ sym (decoded-malformed s (sym (c .before .before .formed .ensures) ∙ not-true (c .before .if1 .taken)))
 
-formed-is : (c : tie.Then1) → formedOf (c .before .before .before .args .line .now) ≡ true
-formed-is c = sym (c .before .formed .ensures) ∙ c .if1 .taken
+formed-is : (c : tie.Else1) → formedOf (c .before .before .before .args .line .now) ≡ true
+formed-is c = sym (c .before .formed .ensures) ∙ not-false (c .if1 .left)
 
 acf-of-requires : tie.Need-acf-of-requires
 acf-of-requires c κs = formed-is c

@@ -4,7 +4,7 @@ use mathlib.Core.Path.{_≡_}
 use Prim.Native.Nat.{ℕ, _+_, _*_, _/_, _%_}
 use native.Mathlib.Omega.{arith}
 use Rattle.lines.specs.Hex.{valueOf}
-use Rattle.lines.proofs.Digits.{Digit, low, high, of-value}
+use Rattle.lines.proofs.Digits.{Digit, low, high, of-value, hex-value}
 use Rattle.lines.proofs.worth.Statement.{statement}
 use Rattle.lines.proofs.worth.Tie as tie
 
@@ -19,7 +19,7 @@ add-result : tie.Need-add-result
 add-result c = search needs
 
 returns : tie.Need-returns
-returns c = worth-of (c .args .b) (valueOf (c .args .b)) (of-value (c .args .b) (c .pre))
+returns c = worth-of (c .args .b) (valueOf (c .args .b)) (of-value (c .args .b) (hex-value (c .args .b) (c .pre)))
 
 pub worth-spec : {M : Type 1} → statement M
 worth-spec = tie.close (tie.spec mul-result add-result returns)

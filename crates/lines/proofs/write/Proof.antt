@@ -4,8 +4,9 @@ use mathlib.Core.Path.{_≡_, sym, ap₂, _∙_}
 use mathlib.Core.List.{List}
 use Prim.Native.Nat.{ℕ}
 use native.Mathlib.Omega.{arith}
-use lib.IntN.{ℤ}
+use lib.IntN.{ℤ, pos}
 use Rattle.numbers.proofs.Read.{zreads}
+use Rattle.rows.proofs.Fill.{first-whole}
 use Rattle.detector.specs.Refusal.{frameRefusalOf}
 use Rattle.lines.specs.Line.{Frame, lineOf}
 use Rattle.lines.specs.Answers.{rangesOf, writeOf}
@@ -31,17 +32,24 @@ returns-3 c =
     let s = c .before .before .before .before .before in
     write-kept (frame s) (s .args .line .now) 1 (write-short (frame s) (s .args .line .now) (lengths-yes (s .args .acf .now) (s .args .lags .now) (omega arith) (omega arith)) (c .if3 .taken)) (λ z. omega arith)
 
-copy-acf-requires : tie.Need-copy-acf-requires
-copy-acf-requires c κs = search needs
+nine-requires : tie.Need-nine-requires
+nine-requires c κs = search needs
 
-copy-lags-requires : tie.Need-copy-lags-requires
-copy-lags-requires c κs = search needs
+four-requires : tie.Need-four-requires
+four-requires c κs = search needs
 
 frame-refusal-requires : tie.Need-frame-refusal-requires
 frame-refusal-requires c κs = search needs
 
 abbrev start : tie.After-frame-refusal → tie.Start
 start c = c .before .before .before .before .before .before .before .before
+
+-- what is lent has its length, and is copied whole
+lent-acf : (c : tie.After-frame-refusal) → c .before .before .nine .result ≡ start c .args .acf .now
+lent-acf c = c .before .before .nine .ensures ∙ first-whole 9 (start c .args .acf .now) (pos 0) (omega arith)
+
+lent-lags : (c : tie.After-frame-refusal) → c .before .four .result ≡ start c .args .lags .now
+lent-lags c = c .before .four .ensures ∙ first-whole 4 (start c .args .lags .now) 0 (omega arith)
 
 ranges-is : (c : tie.After-frame-refusal) → writeOf (frame (start c)) (start c .args .line .now) ≡ c .frame-refusal .result
 unfolding rangesOf
@@ -50,7 +58,7 @@ ranges-is c =
     let f = s .fits .scale in
     let n = simp zreads at (c .frame-refusal .ensures) in
     write-sized (frame s) (s .args .line .now) (lengths-yes (s .args .acf .now) (s .args .lags .now) (omega arith) (omega arith)) (omega arith)
-    ∙ sym (n ∙ ap₂ (λ (x : List ℤ) (y : List ℕ). frameRefusalOf x y (s .args .scale)) (c .before .before .copy-acf .ensures) (c .before .copy-lags .ensures))
+    ∙ sym (n ∙ ap₂ (λ (x : List ℤ) (y : List ℕ). frameRefusalOf x y (s .args .scale)) (lent-acf c) (lent-lags c))
 
 zero-is : (c : tie.Else4) → c .before .frame-refusal .result ≡ 0
 zero-is c = omega arith
@@ -74,7 +82,7 @@ returns-5 c =
     let f = s .fits .scale in
     let p = simp zreads at (c .before .before .put-line .ensures) in
     write-stored (frame s) (s .args .line .now) _ (ranges-is r ∙ z)
-    (p ∙ ap₂ (λ (x : List ℤ) (y : List ℕ). lineOf (record { acf = x; scale = s .args .scale; lags = y })) (r .before .before .copy-acf .ensures) (r .before .copy-lags .ensures))
+    (p ∙ ap₂ (λ (x : List ℤ) (y : List ℕ). lineOf (record { acf = x; scale = s .args .scale; lags = y })) (lent-acf r) (lent-lags r))
 
 pub write-spec : {M : Type 1} → statement M
 write-spec =
@@ -83,8 +91,8 @@ write-spec =
     returns
     returns-2
     returns-3
-    copy-acf-requires
-    copy-lags-requires
+    nine-requires
+    four-requires
     frame-refusal-requires
     returns-4
     put-line-requires

@@ -5,6 +5,7 @@ use lib.IntN.{pos, negsuc}
 use mir.Syntax.{w16}
 use mir.Val.{SFits}
 use Rattle.numbers.proofs.Read.{zreads}
+use Rattle.rows.proofs.Choice.{not-true, not-false}
 use Rattle.state.specs.Valid.{within, countsOk}
 use Rattle.state.proofs.counts_ok.Statement.{statement}
 use Rattle.state.proofs.counts_ok.Tie as tie
@@ -44,42 +45,42 @@ short-within-requires c κs = search needs
 
 returns : tie.Need-returns
 unfolding countsOk
-returns c = rw (test1 (c .before) ∙ c .if1 .left)
+returns c = rw (test1 (c .before) ∙ not-true (c .if1 .taken))
 
 short-within-requires-2 : tie.Need-short-within-requires-2
 short-within-requires-2 c κs = search needs
 
 returns-2 : tie.Need-returns-2
 unfolding countsOk
-returns-2 c = rw (test1 (c .before .before .before .before) ∙ c .before .before .before .if1 .taken, test2 (c .before) ∙ c .if2 .left)
+returns-2 c = rw (test1 (c .before .before .before .before) ∙ not-false (c .before .before .before .if1 .left), test2 (c .before) ∙ not-true (c .if2 .taken))
 
 short-within-requires-3 : tie.Need-short-within-requires-3
 short-within-requires-3 c κs = search needs
 
 returns-3 : tie.Need-returns-3
 unfolding countsOk
-returns-3 c = rw (test1 (c .before .before .before .before .before .before .before) ∙ c .before .before .before .before .before .before .if1 .taken, test2 (c .before .before .before .before) ∙ c .before .before .before .if2 .taken, test3 (c .before) ∙ c .if3 .left)
+returns-3 c = rw (test1 (c .before .before .before .before .before .before .before) ∙ not-false (c .before .before .before .before .before .before .if1 .left), test2 (c .before .before .before .before) ∙ not-false (c .before .before .before .if2 .left), test3 (c .before) ∙ not-true (c .if3 .taken))
 
 short-within-requires-4 : tie.Need-short-within-requires-4
 short-within-requires-4 c κs = search needs
 
 returns-4 : tie.Need-returns-4
 unfolding countsOk
-returns-4 c = rw (test1 (c .before .before .before .before .before .before .before .before .before .before) ∙ c .before .before .before .before .before .before .before .before .before .if1 .taken, test2 (c .before .before .before .before .before .before .before) ∙ c .before .before .before .before .before .before .if2 .taken, test3 (c .before .before .before .before) ∙ c .before .before .before .if3 .taken, test4 (c .before) ∙ c .if4 .left)
+returns-4 c = rw (test1 (c .before .before .before .before .before .before .before .before .before .before) ∙ not-false (c .before .before .before .before .before .before .before .before .before .if1 .left), test2 (c .before .before .before .before .before .before .before) ∙ not-false (c .before .before .before .before .before .before .if2 .left), test3 (c .before .before .before .before) ∙ not-false (c .before .before .before .if3 .left), test4 (c .before) ∙ not-true (c .if4 .taken))
 
 short-within-requires-5 : tie.Need-short-within-requires-5
 short-within-requires-5 c κs = search needs
 
 returns-5 : tie.Need-returns-5
 unfolding countsOk
-returns-5 c = rw (test1 (c .before .before .before .before .before .before .before .before .before .before .before .before .before) ∙ c .before .before .before .before .before .before .before .before .before .before .before .before .if1 .taken, test2 (c .before .before .before .before .before .before .before .before .before .before) ∙ c .before .before .before .before .before .before .before .before .before .if2 .taken, test3 (c .before .before .before .before .before .before .before) ∙ c .before .before .before .before .before .before .if3 .taken, test4 (c .before .before .before .before) ∙ c .before .before .before .if4 .taken, test5 (c .before) ∙ c .if5 .left)
+returns-5 c = rw (test1 (c .before .before .before .before .before .before .before .before .before .before .before .before .before) ∙ not-false (c .before .before .before .before .before .before .before .before .before .before .before .before .if1 .left), test2 (c .before .before .before .before .before .before .before .before .before .before) ∙ not-false (c .before .before .before .before .before .before .before .before .before .if2 .left), test3 (c .before .before .before .before .before .before .before) ∙ not-false (c .before .before .before .before .before .before .if3 .left), test4 (c .before .before .before .before) ∙ not-false (c .before .before .before .if4 .left), test5 (c .before) ∙ not-true (c .if5 .taken))
 
 lag-ok-requires : tie.Need-lag-ok-requires
 lag-ok-requires c κs = search needs
 
 returns-6 : tie.Need-returns-6
 unfolding countsOk
-returns-6 c = rw (test1 (c .before .before .before .before .before .before .before .before .before .before .before .before .before .before) ∙ c .before .before .before .before .before .before .before .before .before .before .before .before .before .if1 .taken, test2 (c .before .before .before .before .before .before .before .before .before .before .before) ∙ c .before .before .before .before .before .before .before .before .before .before .if2 .taken, test3 (c .before .before .before .before .before .before .before .before) ∙ c .before .before .before .before .before .before .before .if3 .taken, test4 (c .before .before .before .before .before) ∙ c .before .before .before .before .if4 .taken, test5 (c .before .before) ∙ c .before .if5 .taken) (c .lag-ok .ensures)
+returns-6 c = rw (test1 (c .before .before .before .before .before .before .before .before .before .before .before .before .before .before) ∙ not-false (c .before .before .before .before .before .before .before .before .before .before .before .before .before .if1 .left), test2 (c .before .before .before .before .before .before .before .before .before .before .before) ∙ not-false (c .before .before .before .before .before .before .before .before .before .before .if2 .left), test3 (c .before .before .before .before .before .before .before .before) ∙ not-false (c .before .before .before .before .before .before .before .if3 .left), test4 (c .before .before .before .before .before) ∙ not-false (c .before .before .before .before .if4 .left), test5 (c .before .before) ∙ not-false (c .before .if5 .left)) (c .lag-ok .ensures)
 
 pub counts-ok-spec : {M : Type 1} → statement M
 counts-ok-spec = tie.close (tie.spec short-within-requires returns short-within-requires-2 returns-2 short-within-requires-3 returns-3 short-within-requires-4 returns-4 short-within-requires-5 returns-5 lag-ok-requires returns-6)

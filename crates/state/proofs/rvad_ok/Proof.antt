@@ -1,16 +1,15 @@
 -- `state::rvad_ok` tests the first coefficient, and the weight of the others against it. Assumes nothing.
 use borrow.Author.Needs.{needs}
-use mathlib.Core.Path.{_≡_, sym, ap, _∙_}
-use Prim.Native.Nat.{ℕ, _+_, _*_, _≤_}
+use mathlib.Core.Path.{_≡_, sym, _∙_}
+use Prim.Native.Nat.{_≤_}
 use native.Mathlib.Omega.{arith}
-use lib.Dec.{leb}
 use lib.IntN.{natAbs, pos}
 use mir.Syntax.{w16, w32}
 use mir.Val.{SFits}
 use Rattle.numbers.specs.Sum.{at}
 use Rattle.numbers.proofs.Magnitude.{fits-abs}
 use Rattle.numbers.proofs.Read.{ranged, cast-need, zreads}
-use Rattle.state.specs.Valid.{within, weightOf, rvadOk}
+use Rattle.state.specs.Valid.{within, rvadOk}
 use Rattle.state.proofs.rvad_ok.Statement.{statement}
 use Rattle.state.proofs.rvad_ok.Tie as tie
 

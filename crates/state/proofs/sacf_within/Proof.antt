@@ -1,7 +1,7 @@
 -- `state::sacf_within` tests each entry from the front: what is left to test decides. Assumes nothing.
 use borrow.Author.Needs.{needs}
 use mathlib.Core.Path.{_≡_, refl, sym, _∙_}
-use Prim.Native.Nat.{ℕ, _-_, _<_, _≤_}
+use Prim.Native.Nat.{_-_, _<_, _≤_}
 use native.Mathlib.Omega.{arith}
 use lib.IntN.{pos, negsuc}
 use lib.ListN.{length, drop}
@@ -10,6 +10,7 @@ use Rattle.numbers.specs.Sum.{at}
 use Rattle.numbers.proofs.Read.{ranged, zreads}
 use Rattle.rows.specs.Rows.{all}
 use Rattle.rows.proofs.All.{all-yes, all-no, all-end}
+use Rattle.rows.proofs.Choice.{not-true, not-false}
 use Rattle.state.specs.Valid.{within, sacfWithin}
 use Rattle.state.proofs.sacf_within.Statement.{statement}
 use Rattle.state.proofs.sacf_within.Tie as tie
@@ -46,7 +47,7 @@ returns c =
     let a = w .before .before .before in
     let l = a .before .args .t1 in
     let in-row : a .loop .i < length l = omega arith in
-    sym (sym (a .loop .inv .1) ∙ all-no (within (negsuc 536870911) (pos 536870911)) l (a .loop .i) (pos 0) in-row (is w ∙ c .if1 .left))
+    sym (sym (a .loop .inv .1) ∙ all-no (within (negsuc 536870911) (pos 536870911)) l (a .loop .i) (pos 0) in-row (is w ∙ not-true (c .if1 .taken)))
 
 add-i : tie.Need-add-i Inv-loop μ-loop
 add-i c = search needs
@@ -60,7 +61,7 @@ loop-again c =
     let a = w .before .before .before in
     let l = a .before .args .t1 in
     let in-row : a .loop .i < length l = omega arith in
-    (omega arith, sym (all-yes (within (negsuc 536870911) (pos 536870911)) l (a .loop .i) (pos 0) in-row (is w ∙ c .if1 .taken)) ∙ a .loop .inv .1)
+    (omega arith, sym (all-yes (within (negsuc 536870911) (pos 536870911)) l (a .loop .i) (pos 0) in-row (is w ∙ not-false (c .if1 .left))) ∙ a .loop .inv .1)
 
 returns-2 : tie.Need-returns-2 Inv-loop μ-loop
 returns-2 c =

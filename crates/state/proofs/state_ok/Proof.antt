@@ -5,6 +5,7 @@ use lib.IntN.{pos}
 use mir.Syntax.{w16}
 use mir.Val.{SFits}
 use Rattle.numbers.proofs.Read.{zreads}
+use Rattle.rows.proofs.Choice.{not-true, not-false}
 use Rattle.state.specs.Valid.{within, validOf}
 use Rattle.state.proofs.state_ok.Statement.{statement}
 use Rattle.state.proofs.state_ok.Tie as tie
@@ -20,7 +21,7 @@ pointer-ok-requires c κs = search needs
 
 returns : tie.Need-returns
 unfolding validOf
-returns c = rw (sym (c .before .pointer-ok .ensures) ∙ c .if1 .left)
+returns c = rw (sym (c .before .pointer-ok .ensures) ∙ not-true (c .if1 .taken))
 
 pointer-ok-requires-2 : tie.Need-pointer-ok-requires-2
 pointer-ok-requires-2 c κs = search needs
@@ -29,8 +30,8 @@ returns-2 : tie.Need-returns-2
 unfolding validOf
 returns-2 c =
     rw (
-      sym (c .before .before .before .pointer-ok .ensures) ∙ c .before .before .if1 .taken,
-      sym (c .before .pointer-ok2 .ensures) ∙ c .if2 .left,
+      sym (c .before .before .before .pointer-ok .ensures) ∙ not-false (c .before .before .if1 .left),
+      sym (c .before .pointer-ok2 .ensures) ∙ not-true (c .if2 .taken),
     )
 
 sacf-ok-requires : tie.Need-sacf-ok-requires
@@ -40,9 +41,9 @@ returns-3 : tie.Need-returns-3
 unfolding validOf
 returns-3 c =
     rw (
-      sym (c .before .before .before .before .before .before .pointer-ok .ensures) ∙ c .before .before .before .before .before .if1 .taken,
-      sym (c .before .before .before .before .pointer-ok2 .ensures) ∙ c .before .before .before .if2 .taken,
-      sym (c .before .sacf-ok .ensures) ∙ c .if3 .left,
+      sym (c .before .before .before .before .before .before .pointer-ok .ensures) ∙ not-false (c .before .before .before .before .before .if1 .left),
+      sym (c .before .before .before .before .pointer-ok2 .ensures) ∙ not-false (c .before .before .before .if2 .left),
+      sym (c .before .sacf-ok .ensures) ∙ not-true (c .if3 .taken),
     )
 
 sav0-ok-requires : tie.Need-sav0-ok-requires
@@ -52,10 +53,10 @@ returns-4 : tie.Need-returns-4
 unfolding validOf
 returns-4 c =
     rw (
-      sym (c .before .before .before .before .before .before .before .before .before .pointer-ok .ensures) ∙ c .before .before .before .before .before .before .before .before .if1 .taken,
-      sym (c .before .before .before .before .before .before .before .pointer-ok2 .ensures) ∙ c .before .before .before .before .before .before .if2 .taken,
-      sym (c .before .before .before .before .sacf-ok .ensures) ∙ c .before .before .before .if3 .taken,
-      sym (c .before .sav0-ok .ensures) ∙ c .if4 .left,
+      sym (c .before .before .before .before .before .before .before .before .before .pointer-ok .ensures) ∙ not-false (c .before .before .before .before .before .before .before .before .if1 .left),
+      sym (c .before .before .before .before .before .before .before .pointer-ok2 .ensures) ∙ not-false (c .before .before .before .before .before .before .if2 .left),
+      sym (c .before .before .before .before .sacf-ok .ensures) ∙ not-false (c .before .before .before .if3 .left),
+      sym (c .before .sav0-ok .ensures) ∙ not-true (c .if4 .taken),
     )
 
 rvad-ok-requires : tie.Need-rvad-ok-requires
@@ -65,11 +66,11 @@ returns-5 : tie.Need-returns-5
 unfolding validOf
 returns-5 c =
     rw (
-      sym (c .before .before .before .before .before .before .before .before .before .before .before .before .pointer-ok .ensures) ∙ c .before .before .before .before .before .before .before .before .before .before .before .if1 .taken,
-      sym (c .before .before .before .before .before .before .before .before .before .before .pointer-ok2 .ensures) ∙ c .before .before .before .before .before .before .before .before .before .if2 .taken,
-      sym (c .before .before .before .before .before .before .before .sacf-ok .ensures) ∙ c .before .before .before .before .before .before .if3 .taken,
-      sym (c .before .before .before .before .sav0-ok .ensures) ∙ c .before .before .before .if4 .taken,
-      sym (c .before .rvad-ok .ensures) ∙ c .if5 .left,
+      sym (c .before .before .before .before .before .before .before .before .before .before .before .before .pointer-ok .ensures) ∙ not-false (c .before .before .before .before .before .before .before .before .before .before .before .if1 .left),
+      sym (c .before .before .before .before .before .before .before .before .before .before .pointer-ok2 .ensures) ∙ not-false (c .before .before .before .before .before .before .before .before .before .if2 .left),
+      sym (c .before .before .before .before .before .before .before .sacf-ok .ensures) ∙ not-false (c .before .before .before .before .before .before .if3 .left),
+      sym (c .before .before .before .before .sav0-ok .ensures) ∙ not-false (c .before .before .before .if4 .left),
+      sym (c .before .rvad-ok .ensures) ∙ not-true (c .if5 .taken),
     )
 
 short-within-requires : tie.Need-short-within-requires
@@ -79,12 +80,12 @@ returns-6 : tie.Need-returns-6
 unfolding validOf
 returns-6 c =
     rw (
-      sym (c .before .before .before .before .before .before .before .before .before .before .before .before .before .before .before .pointer-ok .ensures) ∙ c .before .before .before .before .before .before .before .before .before .before .before .before .before .before .if1 .taken,
-      sym (c .before .before .before .before .before .before .before .before .before .before .before .before .before .pointer-ok2 .ensures) ∙ c .before .before .before .before .before .before .before .before .before .before .before .before .if2 .taken,
-      sym (c .before .before .before .before .before .before .before .before .before .before .sacf-ok .ensures) ∙ c .before .before .before .before .before .before .before .before .before .if3 .taken,
-      sym (c .before .before .before .before .before .before .before .sav0-ok .ensures) ∙ c .before .before .before .before .before .before .if4 .taken,
-      sym (c .before .before .before .before .rvad-ok .ensures) ∙ c .before .before .before .if5 .taken,
-      norm-is (c .before) ∙ c .if6 .left,
+      sym (c .before .before .before .before .before .before .before .before .before .before .before .before .before .before .before .pointer-ok .ensures) ∙ not-false (c .before .before .before .before .before .before .before .before .before .before .before .before .before .before .if1 .left),
+      sym (c .before .before .before .before .before .before .before .before .before .before .before .before .before .pointer-ok2 .ensures) ∙ not-false (c .before .before .before .before .before .before .before .before .before .before .before .before .if2 .left),
+      sym (c .before .before .before .before .before .before .before .before .before .before .sacf-ok .ensures) ∙ not-false (c .before .before .before .before .before .before .before .before .before .if3 .left),
+      sym (c .before .before .before .before .before .before .before .sav0-ok .ensures) ∙ not-false (c .before .before .before .before .before .before .if4 .left),
+      sym (c .before .before .before .before .rvad-ok .ensures) ∙ not-false (c .before .before .before .if5 .left),
+      norm-is (c .before) ∙ not-true (c .if6 .taken),
     )
 
 thvad-ok-requires : tie.Need-thvad-ok-requires
@@ -94,13 +95,13 @@ returns-7 : tie.Need-returns-7
 unfolding validOf
 returns-7 c =
     rw (
-      sym (c .before .before .before .before .before .before .before .before .before .before .before .before .before .before .before .before .before .before .pointer-ok .ensures) ∙ c .before .before .before .before .before .before .before .before .before .before .before .before .before .before .before .before .before .if1 .taken,
-      sym (c .before .before .before .before .before .before .before .before .before .before .before .before .before .before .before .before .pointer-ok2 .ensures) ∙ c .before .before .before .before .before .before .before .before .before .before .before .before .before .before .before .if2 .taken,
-      sym (c .before .before .before .before .before .before .before .before .before .before .before .before .before .sacf-ok .ensures) ∙ c .before .before .before .before .before .before .before .before .before .before .before .before .if3 .taken,
-      sym (c .before .before .before .before .before .before .before .before .before .before .sav0-ok .ensures) ∙ c .before .before .before .before .before .before .before .before .before .if4 .taken,
-      sym (c .before .before .before .before .before .before .before .rvad-ok .ensures) ∙ c .before .before .before .before .before .before .if5 .taken,
-      norm-is (c .before .before .before .before) ∙ c .before .before .before .if6 .taken,
-      sym (c .before .thvad-ok .ensures) ∙ c .if7 .left,
+      sym (c .before .before .before .before .before .before .before .before .before .before .before .before .before .before .before .before .before .before .pointer-ok .ensures) ∙ not-false (c .before .before .before .before .before .before .before .before .before .before .before .before .before .before .before .before .before .if1 .left),
+      sym (c .before .before .before .before .before .before .before .before .before .before .before .before .before .before .before .before .pointer-ok2 .ensures) ∙ not-false (c .before .before .before .before .before .before .before .before .before .before .before .before .before .before .before .if2 .left),
+      sym (c .before .before .before .before .before .before .before .before .before .before .before .before .before .sacf-ok .ensures) ∙ not-false (c .before .before .before .before .before .before .before .before .before .before .before .before .if3 .left),
+      sym (c .before .before .before .before .before .before .before .before .before .before .sav0-ok .ensures) ∙ not-false (c .before .before .before .before .before .before .before .before .before .if4 .left),
+      sym (c .before .before .before .before .before .before .before .rvad-ok .ensures) ∙ not-false (c .before .before .before .before .before .before .if5 .left),
+      norm-is (c .before .before .before .before) ∙ not-false (c .before .before .before .if6 .left),
+      sym (c .before .thvad-ok .ensures) ∙ not-true (c .if7 .taken),
     )
 
 counts-ok-requires : tie.Need-counts-ok-requires
@@ -110,13 +111,13 @@ returns-8 : tie.Need-returns-8
 unfolding validOf
 returns-8 c =
     rw (
-      sym (c .before .before .before .before .before .before .before .before .before .before .before .before .before .before .before .before .before .before .before .pointer-ok .ensures) ∙ c .before .before .before .before .before .before .before .before .before .before .before .before .before .before .before .before .before .before .if1 .taken,
-      sym (c .before .before .before .before .before .before .before .before .before .before .before .before .before .before .before .before .before .pointer-ok2 .ensures) ∙ c .before .before .before .before .before .before .before .before .before .before .before .before .before .before .before .before .if2 .taken,
-      sym (c .before .before .before .before .before .before .before .before .before .before .before .before .before .before .sacf-ok .ensures) ∙ c .before .before .before .before .before .before .before .before .before .before .before .before .before .if3 .taken,
-      sym (c .before .before .before .before .before .before .before .before .before .before .before .sav0-ok .ensures) ∙ c .before .before .before .before .before .before .before .before .before .before .if4 .taken,
-      sym (c .before .before .before .before .before .before .before .before .rvad-ok .ensures) ∙ c .before .before .before .before .before .before .before .if5 .taken,
-      norm-is (c .before .before .before .before .before) ∙ c .before .before .before .before .if6 .taken,
-      sym (c .before .before .thvad-ok .ensures) ∙ c .before .if7 .taken,
+      sym (c .before .before .before .before .before .before .before .before .before .before .before .before .before .before .before .before .before .before .before .pointer-ok .ensures) ∙ not-false (c .before .before .before .before .before .before .before .before .before .before .before .before .before .before .before .before .before .before .if1 .left),
+      sym (c .before .before .before .before .before .before .before .before .before .before .before .before .before .before .before .before .before .pointer-ok2 .ensures) ∙ not-false (c .before .before .before .before .before .before .before .before .before .before .before .before .before .before .before .before .if2 .left),
+      sym (c .before .before .before .before .before .before .before .before .before .before .before .before .before .before .sacf-ok .ensures) ∙ not-false (c .before .before .before .before .before .before .before .before .before .before .before .before .before .if3 .left),
+      sym (c .before .before .before .before .before .before .before .before .before .before .before .sav0-ok .ensures) ∙ not-false (c .before .before .before .before .before .before .before .before .before .before .if4 .left),
+      sym (c .before .before .before .before .before .before .before .before .rvad-ok .ensures) ∙ not-false (c .before .before .before .before .before .before .before .if5 .left),
+      norm-is (c .before .before .before .before .before) ∙ not-false (c .before .before .before .before .if6 .left),
+      sym (c .before .before .thvad-ok .ensures) ∙ not-false (c .before .if7 .left),
     )
     (c .counts-ok .ensures)
 

@@ -1,7 +1,7 @@
 -- `state::thvad_ok` tests the mantissa and the exponent. Assumes nothing.
 use borrow.Author.Needs.{needs}
 use mathlib.Core.Path.{_≡_, sym, _∙_}
-use lib.IntN.{pos, negsuc}
+use lib.IntN.{pos}
 use mir.Syntax.{w16}
 use mir.Val.{SFits}
 use Rattle.numbers.proofs.Read.{zreads}

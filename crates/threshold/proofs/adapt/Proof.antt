@@ -9,7 +9,7 @@ use mir.Syntax.{w16}
 use mir.Val.{SFits}
 use Rattle.numbers.proofs.Read.{ranged, zreads}
 use Rattle.operations.specs.Operations.{add}
-use Rattle.rows.proofs.Choice.{by-yes, by-no}
+use Rattle.rows.proofs.Choice.{by-yes, by-no, not-true, not-false}
 use Rattle.pairs.specs.declared.Pair.{Pair}
 use Rattle.pairs.specs.Pairs.{greaterOf}
 use Rattle.threshold.specs.declared.Kept.{Kept}
@@ -77,7 +77,7 @@ returns-3 c =
     let u = c .before .before in
     let s = u .before .before in
     reset (s .args .acf0) (s .args .pvad) (s .args .ptch) (s .args .stat) (s .args .rav1) (s .args .normrav1) (s .args .kept) (sym (u .before .greater .ensures) ∙ u .if1 .left)
-    (or-right (s .args .ptch) (s .args .stat) (c .before .if2 .left) (c .if3 .left))
+    (or-right (s .args .ptch) (s .args .stat) (c .before .if2 .left) (not-true (c .if3 .taken)))
 
 add-requires : tie.Need-add-requires
 add-requires c κs = search needs
@@ -94,7 +94,7 @@ returns-4 c =
     let n : leZ (a .add .result) (pos 8) ≡ true = simp zreads at (c .if4 .taken) in
     simp zreads
     (counted (s .args .acf0) (s .args .pvad) (s .args .ptch) (s .args .stat) (s .args .rav1) (s .args .normrav1) (s .args .kept) (sym (u .before .greater .ensures) ∙ u .if1 .left)
-    (or-no (s .args .ptch) (s .args .stat) (t .before .if2 .left) (t .if3 .taken)) (a .add .result) e n)
+    (or-no (s .args .ptch) (s .args .stat) (t .before .if2 .left) (not-false (t .if3 .left))) (a .add .result) e n)
 
 adapted-requires : tie.Need-adapted-requires
 adapted-requires c κs = search needs
@@ -113,7 +113,7 @@ returns-5 c =
     let n : leZ (a .add .result) (pos 8) ≡ false = simp zreads at (b .if4 .left) in
     simp zreads
     (learnt (s .args .acf0) (s .args .pvad) (s .args .ptch) (s .args .stat) (s .args .rav1) (s .args .normrav1) (s .args .kept) (sym (u .before .greater .ensures) ∙ u .if1 .left)
-    (or-no (s .args .ptch) (s .args .stat) (t .before .if2 .left) (t .if3 .taken)) (a .add .result) (c .adapted .result) e n (c .adapted .ensures))
+    (or-no (s .args .ptch) (s .args .stat) (t .before .if2 .left) (not-false (t .if3 .left))) (a .add .result) (c .adapted .result) e n (c .adapted .ensures))
 
 pub adapt-spec : {M : Type 1} → statement M
 adapt-spec =
