@@ -27,7 +27,7 @@ use Rattle.predictor.specs.Schur.{Arrays, KOf, leavesOf, turnedOf, innerFrom, v
 use Rattle.predictor.specs.StepUp.{aav1Of}
 use Rattle.predictor.specs.Filter.{L-workOf, predictedOf}
 use Rattle.predictor.specs.declared.Filter.{Filter}
-use Rattle.spectrum.specs.Spectrum.{sav0Of, L-ΣpOf, magnitudeOf}
+use Rattle.spectrum.specs.Spectrum.{sav0Of, L-ΣpOf, sizeOf}
 use Rattle.threshold.specs.Threshold.{PTH, MARGIN, loweredOf}
 use Rattle.state.specs.declared.State.{State}
 use Rattle.state.specs.Valid.{Between}
@@ -169,7 +169,7 @@ module _ (L-ACF : List ℤ) (lags : List ℕ) (scalvad : ℤ) (s : State) where
     pub c-6-3-1 : Clause-6-3-1 (averages .av1)
     pub c-6-3-2 : Clause-6-3-2 (vparOf (averages .av1))
     pub c-6-3-3 : Clause-6-3-3 (row 9 (aav1Of (vparOf (averages .av1))))
-    pub c-6-4 : Clause-6-4 (averages .av0) (magnitudeOf (L-ΣpOf (filter .rav1) (averages .av0))) filter
+    pub c-6-4 : Clause-6-4 (averages .av0) (sizeOf (L-ΣpOf (filter .rav1) (averages .av0))) filter
     pub c-6-6 : greaterOf PTH (energies .acf0) ≡ false → Clause-6-6 (s .thvad) (energies .pvad)
     pub c-6-9 : Clause-6-9 (s .oldlag) lags
     -- an all-zero frame: 6.1 exits at once, 6.2 to 6.4 are not run, and 6.6 stops at the level

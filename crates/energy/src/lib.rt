@@ -1,16 +1,18 @@
 // Clause 6.1: the energy of a frame, and its energy through the adaptive filter.
 ghost use mathlib.Core.Path.{_≡_};
-ghost use Prim.Native.Nat.{_≤_};
+ghost use lib.IntN.{pos};
+ghost use Rattle.operations.specs.Operations as op;
 ghost use Rattle.rows.specs.Rows.{row};
 ghost use Rattle.energy.specs.Energy as clause;
 use operations::add;
 use operations::l_add;
 use operations::l_mult;
-use operations::l_shl;
 use operations::l_shr;
 use operations::norm;
 use operations::shl;
+use operations::shr;
 use operations::sub;
+use operations::topped;
 use pairs::Pair;
 use rows::products;
 
@@ -20,6 +22,13 @@ pub struct Energies {
     pub pvad: Pair,
 }
 
+// One autocorrelation in 13 bits.
+fn scaled(x: i32, normacf: i16) -> i16
+    ensures { λ r. ⌜ r ≡ op._>>_ (op._<<_ x normacf) (pos 19) ⌝ }
+{
+    shr(topped(x, normacf), 3)
+}
+
 // The autocorrelations in 13 bits.
 fn sacf(acf: [i32; 9]) -> [i16; 9]
     ensures { λ r. ⌜ r ≡ row 9 (clause.sacfOf acf) ⌝ }
@@ -27,7 +36,7 @@ fn sacf(acf: [i32; 9]) -> [i16; 9]
     let normacf = norm(acf[0]);
     let mut out = [0i16; 9];
     for i in 0..9 {
-        out[i] = l_shr(l_shl(acf[i], normacf), 19) as i16;
+        out[i] = scaled(acf[i], normacf);
     }
     out
 }
@@ -38,7 +47,7 @@ fn filter_sum(acf: [i32; 9], rvad: [i16; 9]) -> i32
 {
     let s = sacf(acf);
     let first = l_shr(l_mult(s[0], rvad[0]), 1);
-    l_add(products(&s[1..9], &rvad[1..9]), first)
+    l_add(products(&rvad[1..9], &s[1..9]), first)
 }
 
 // 1 for a number that is not positive.
@@ -56,10 +65,9 @@ fn acf0(acf: [i32; 9], scalvad: i16) -> Pair
     ensures { λ r. ⌜ r ≡ clause.acf0Of acf scalvad ⌝ }
 {
     let normacf = norm(acf[0]);
-    let first = l_shr(l_shl(acf[0], normacf), 19) as i16;
     Pair {
         e: sub(add(32, shl(scalvad, 1)), normacf),
-        m: shl(first, 3),
+        m: shl(scaled(acf[0], normacf), 3),
     }
 }
 
@@ -70,11 +78,11 @@ fn pvad(e: i16, normrvad: i16, sum: i32) -> Pair
     let normprod = norm(sum);
     Pair {
         e: sub(sub(add(e, 14), normrvad), normprod),
-        m: l_shr(l_shl(sum, normprod), 16) as i16,
+        m: topped(sum, normprod),
     }
 }
 
-// 6.1.
+// The two energies of a frame; those of an all-zero frame are below all others.
 pub fn energy(acf: [i32; 9], scalvad: i16, rvad: [i16; 9], normrvad: i16) -> Energies
     ensures { λ r. ⌜ r ≡ clause.energyOf acf scalvad rvad normrvad ⌝ }
 {

@@ -1,18 +1,19 @@
 -- What a caller may use of the operations, each a law about the definitions: the range of an answer, where it is exact, and the sentences of
 -- document 01, 'Arithmetic', one by one. Those on norm stand in `Normal`. Assumes nothing.
 use mathlib.Core.Path.{_≡_, refl, sym, ap, _∙_}
-use Prim.Native.Nat.{ℕ, zero, suc, _*_, _/_, _^_, _<_, min}
+use Prim.Native.Nat.{ℕ, zero, suc, _+_, _*_, _/_, _^_, _<_, min}
 use native.Mathlib.Nat.{div-lt-iff-lt-mul, mul-div-cancel-left, mul-lt-mul-of-pos-right, zero-div}
 use native.Mathlib.Omega.{arith}
 use lib.IntN.{ℤ, natAbs, pos, negsuc, negℤ, _+ℤ_, _-ℤ_, _*ℤ_}
 use lib.Signed.{shrZ}
-use lib.Pow.{pow-pos}
+use lib.Pow.{pow-pos, shr-shr}
 use mir.Syntax.{Width, w16, w32}
 use mir.Val.{SFits, bits}
 use Rattle.numbers.specs.Floor.{residue}
 use Rattle.numbers.specs.Clamp.{clamp}
 use Rattle.numbers.specs.Wrap.{wrap}
 use Rattle.numbers.proofs.Parts.{zarith, times}
+use Rattle.numbers.proofs.Poly.{v, _⊗_, ring}
 use Rattle.numbers.proofs.Magnitude.{abs-*, abs-fits}
 use Rattle.numbers.proofs.Floor.{Division, shift, floor-fits}
 use Rattle.numbers.proofs.Clamp.{clamp-fits, clamp-in}
@@ -69,6 +70,10 @@ pub L-mult-exact : (x y : ℤ) → natAbs x * natAbs y < 2 ^ 30 → L-mult x y �
 unfolding L-mult
 L-mult-exact x y h = clamp-in w32 (x *ℤ y *ℤ pos 2) (abs-fits w32 (x *ℤ y *ℤ pos 2) (omega (arith, abs-* (x *ℤ y) (pos 2), abs-* x y)))
 
+pub L-mult-comm : (x y : ℤ) → L-mult x y ≡ L-mult y x
+unfolding L-mult
+L-mult-comm x y = ap (λ (z : ℤ). clamp w32 (z *ℤ pos 2)) (ring (v x ⊗ v y) (v y ⊗ v x) (omega arith))
+
 pub abs-range : (x : ℤ) → SFits w16 (abs x)
 unfolding abs
 abs-range x = clamp-fits w16 (pos (natAbs x))
@@ -120,6 +125,12 @@ module _ (w : Width) where
   opposite x (pos zero) f = ap (wrap w) (once x) ∙ wrap-in w f ∙ sym (by-one x)
   opposite x (pos (suc n)) f = refl
   opposite x (negsuc n) f = refl
+
+-- two shifts to the right are one
+pub right-again : (u w : Width) (x : ℤ) (m n : ℕ) → shiftRight w (shiftRight u x (pos m)) (pos n) ≡ shiftRight u x (pos (m + n))
+unfolding shiftRight
+right-again u w (pos a) m n = ap pos (shr-shr a m n)
+right-again u w (negsuc a) m n = ap negsuc (shr-shr a m n)
 
 -- ---- the low 16 bits
 pub short-fits : (x : ℤ) → SFits w16 (short x)

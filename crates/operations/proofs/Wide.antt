@@ -1,6 +1,6 @@
 -- Two numbers of a width w, taken to a wider width v: what is computed of them there is exact, since it fits. Assumes nothing.
 use mathlib.Core.Path.{_≡_, ap, _∙_}
-use Prim.Native.Nat.{ℕ, suc, _*_, _^_, _<_, _≤_}
+use Prim.Native.Nat.{suc, _*_, _^_, _<_, _≤_}
 use native.Mathlib.Omega.{arith}
 use lib.Dec.{T, ltb, leb, ltb→lt}
 use lib.IntN.{ℤ, _+ℤ_, _-ℤ_, _*ℤ_}

@@ -1,7 +1,7 @@
 -- The operations of GSM 06.10 (its clause on arithmetic), as document 01, 'Arithmetic', reads them, with the standard's names: `L-add` is
 -- its L_add, `mult-r` its mult_r. For whoever writes down or reads a clause of GSM 06.32. A variable of 16 or 32 bits is a whole number
 -- here; `w16` and `w32` name its width. What document 01 leaves open is marked "decided" and argued in docs/DECISIONS.md. Assumes nothing.
-use Prim.Native.Nat.{ℕ, zero, suc, _^_}
+use Prim.Native.Nat.{zero, suc, _^_}
 use lib.Count.{leadingZeros}
 use lib.IntN.{ℤ, natAbs, pos, negsuc, negℤ, _+ℤ_, _-ℤ_, _*ℤ_}
 use lib.Signed.{shrZ}
@@ -37,6 +37,10 @@ L-mult x y = clamp w32 (x *ℤ y *ℤ pos 2)
 unfoldable pub abs : ℤ → ℤ
 abs x = clamp w16 (pos (natAbs x))
 
+-- of a long variable, which clause 6.4 of GSM 06.32 writes out
+unfoldable pub L-abs : ℤ → ℤ
+L-abs x = clamp w32 (pos (natAbs x))
+
 -- ---- shifts of a number of the width w. To the right is the quotient rounded down; to the left drops the bits pushed out, which is
 -- document 01's reading; a negative amount is the opposite shift. An amount of the width or more is no exception (decided).
 
@@ -62,6 +66,10 @@ x <<ₛ n = shiftLeft w16 x n
 
 abbrev pub _>>ₛ_ : ℤ → ℤ → ℤ
 x >>ₛ n = shiftRight w16 x n
+
+-- ---- `var2 = ( L_var1 << n ) >> 16`: the top half of a long variable shifted to the left
+abbrev pub topped : ℤ → ℤ → ℤ
+topped x n = x << n >> pos 16
 
 -- ---- `var2 = L_var1`: the low 16 bits of a long variable, as two's complement
 unfoldable pub short : ℤ → ℤ

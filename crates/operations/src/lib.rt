@@ -65,7 +65,7 @@ pub fn l_sub(x: i32, y: i32) -> i32
 // ---- products and magnitudes
 
 // The exact product.
-fn product(x: i16, y: i16) -> i32
+pub fn product(x: i16, y: i16) -> i32
     ensures { λ r. ⌜ r ≡ x *ℤ y ⌝ }
 {
     (x as i32) * (y as i32)
@@ -107,6 +107,13 @@ pub fn abs(x: i16) -> i16
     ensures { λ r. ⌜ r ≡ op.abs x ⌝ }
 {
     clamp16(magnitude(x as i32) as i32)
+}
+
+// The same of a long variable; that of -2147483648 is 2147483647.
+pub fn l_abs(x: i32) -> i32
+    ensures { λ r. ⌜ r ≡ op.L-abs x ⌝ }
+{
+    clamp32(magnitude(x) as i64)
 }
 
 // ---- shifts: to the left it drops the bits pushed out, to the right it rounds down, and a negative amount is the opposite shift
@@ -200,6 +207,13 @@ pub fn short(x: i32) -> i16
     ensures { λ r. ⌜ r ≡ op.short x ⌝ }
 {
     right32(left32(x, 16), 16) as i16
+}
+
+// The top half of a long variable shifted to the left.
+pub fn topped(x: i32, n: i16) -> i16
+    ensures { λ r. ⌜ r ≡ op.topped x n ⌝ }
+{
+    l_shr(l_shl(x, n), 16) as i16
 }
 
 // ---- norm

@@ -17,7 +17,8 @@ use operations::l_shr;
 use operations::mult_r;
 use operations::norm;
 use operations::sub;
-use rows::products;
+use operations::topped;
+use rows::lagged;
 
 // The autocorrelation of the predictor, and its scaling.
 pub struct Filter {
@@ -108,13 +109,6 @@ fn recursion(order: usize, sacf: [i16; 9]) -> [i16; 9]
     v
 }
 
-// The top half of a number shifted to the left, which drops bits.
-fn topped(x: i32, n: i16) -> i16
-    ensures { λ r. ⌜ r ≡ op._>>_ (op._<<_ x n) (pos 16) ⌝ }
-{
-    l_shr(l_shl(x, n), 16) as i16
-}
-
 // The averages in 16 bits.
 fn sacf(av1: [i32; 9]) -> [i16; 9]
     ensures { λ r. ⌜ r ≡ row 9 (schur.sacfOf av1) ⌝ }
@@ -186,25 +180,15 @@ pub fn aav1(vpar: [i16; 9]) -> [i16; 9]
 
 // ---- 6.3.3
 
-// One entry of the autocorrelation.
-fn work(aav1: [i16; 9], i: usize) -> i32
-    requires { ⌜ i ≤ 8 ⌝ }
-    ensures { λ r. ⌜ r ≡ filter.L-workOf aav1 i ⌝ }
-{
-    let shifted = aav1;
-    products(&aav1[0..(9 - i)], &shifted[i..9])
-}
-
-// The autocorrelation, normalised by its first entry.
+// The autocorrelation of the predictor, normalised by its first entry.
 pub fn whitened(aav1: [i16; 9]) -> Filter
     ensures { λ r. ⌜ r ≡ filter.whitenedOf aav1 ⌝ }
 {
-    let first = work(aav1, 0);
-    let normrav1 = norm(first);
+    let work = lagged(aav1);
+    let normrav1 = norm(work[0]);
     let mut out = [0i16; 9];
-    out[0] = topped(first, normrav1);
-    for i in 1..9 {
-        out[i] = topped(work(aav1, i), normrav1);
+    for i in 0..9 {
+        out[i] = topped(work[i], normrav1);
     }
     Filter {
         rav1: out,
@@ -212,7 +196,7 @@ pub fn whitened(aav1: [i16; 9]) -> Filter
     }
 }
 
-// 6.3.
+// The filter that whitens the averages.
 pub fn predicted(av1: [i32; 9]) -> Filter
     ensures { λ r. ⌜ r ≡ filter.predictedOf av1 ⌝ }
 {

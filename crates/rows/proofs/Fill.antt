@@ -86,6 +86,12 @@ module _ {ℓ} {A : Type ℓ} where
       let k : n ≡ i = omega (arith, ltb-false i n t) in
       ap (λ (j : ℕ). getD (row n f ++ (f n ∷ [])) j d) e ∙ getD-append-add (row n f) (f n ∷ []) 0 d ∙ ap f k)
 
+  -- equal entries, equal rows
+  pub row-ext : (n : ℕ) (f g : ℕ → A) → ((k : ℕ) → k < n → f k ≡ g k) → row n f ≡ row n g
+  unfolding row
+  row-ext zero f g e = refl
+  row-ext (suc n) f g e = ap₂ (λ (l : List A) (x : A). l ++ (x ∷ [])) (row-ext n f g (λ k h. e k (omega arith))) (e n (omega arith))
+
 -- what holds of 0 and of each number of a row holds at every index
 pub row-all : (Q : ℤ → Type 0) (n : ℕ) (f : ℕ → ℤ) → Q (pos 0) → ((k : ℕ) → Q (f k)) → (k : ℕ) → Q (at (row n f) k)
 row-all Q n f z h k =

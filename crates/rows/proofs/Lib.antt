@@ -3,3 +3,5 @@ pub mod Fill
 pub mod All
 pub mod Sum
 pub mod Tail
+pub mod Plain
+pub mod Lag

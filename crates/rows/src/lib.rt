@@ -1,11 +1,15 @@
-// Rows of numbers: how they are made, tested and copied in a loop, and the running sum of products that three clauses use.
+// Rows of numbers: lent ones by value, and the running sums of products that three clauses use. A sum of which no step before the last can clip is
+// made as an exact one; any other is clipped at each step.
 ghost use mathlib.Core.Path.{_≡_};
-ghost use Prim.Native.Nat.{min};
-ghost use lib.IntN.{pos};
-ghost use lib.ListN.{getD};
-ghost use Rattle.rows.specs.Rows.{firstOf, L-products};
+ghost use mathlib.Core.Bool.{true};
+ghost use Prim.Native.Nat.{ℕ, _^_, _<_, _≤_, min};
+ghost use lib.IntN.{natAbs, pos};
+ghost use lib.ListN.{length, getD};
+ghost use Rattle.numbers.specs.Sum.{at};
+ghost use Rattle.rows.specs.Rows.{row, firstOf, all, thirteen, product-sum, L-products, L-lagged};
 use operations::l_add;
 use operations::l_mult;
+use operations::product;
 
 // The lesser of two lengths.
 pub fn lesser(m: usize, n: usize) -> usize
@@ -14,17 +18,7 @@ pub fn lesser(m: usize, n: usize) -> usize
     if m < n { m } else { n }
 }
 
-// The sum of the doubled products of two rows, over the entries that both have.
-pub fn products(a: &[i16], b: &[i16]) -> i32
-    ensures { λ r. ⌜ r ≡ L-products (now (a .entry)) (now (b .entry)) ⌝ }
-{
-    let n = lesser(a.len(), b.len());
-    let mut s: i32 = 0;
-    for k in 0..n {
-        s = l_add(s, l_mult(a[k], b[k]));
-    }
-    s
-}
+// ---- lent rows, by value
 
 // The number at i of a row, 0 beyond its end.
 fn long_at(from: &[i32], i: usize) -> i32
@@ -61,4 +55,98 @@ pub fn four(from: &[u16]) -> [u16; 4]
         lag_at(from, 2),
         lag_at(from, 3),
     ]
+}
+
+// ---- running sums
+
+// Whether a number has 13 bits.
+fn thirteen(x: i16) -> bool
+    ensures { λ r. ⌜ r ≡ thirteen x ⌝ }
+{
+    (x >= -4096) & (x <= 4095)
+}
+
+// Whether each number of a row has 13 bits. A loop that never leaves is done many entries at a time.
+fn narrow(a: &[i16]) -> bool
+    ensures { λ r. ⌜ r ≡ all thirteen (now (a .entry)) ⌝ }
+{
+    let mut ok = true;
+    for k in 0..a.len() {
+        ok = ok & thirteen(a[k]);
+    }
+    ok
+}
+
+// The exact sum of the products of two rows, which stays within 32 bits: the second has at most nine entries, of 13 bits. The other promise is what
+// the reading of the first row tells.
+fn exact(a: &[i16], b: &[i16]) -> i32
+    requires { ⌜ (length (now b) ≤ 9) × (all thirteen (now b) ≡ true) ⌝ }
+    ensures { λ r. ⌜ r ≡ product-sum (now (a .entry)) (now (b .entry)) ⌝ }
+    ensures { λ r. ⌜ ((k : ℕ) → k < min (length (now (a .entry))) (length (now (b .entry))) → natAbs (at (now (a .entry)) k) ≤ 2 ^ 15) ⌝ }
+{
+    let n = lesser(a.len(), b.len());
+    let mut s: i32 = 0;
+    for k in 0..n {
+        s = s + product(a[k], b[k]);
+    }
+    s
+}
+
+// The sum of the doubled products of two rows, clipped at each step.
+fn clipped(a: &[i16], b: &[i16]) -> i32
+    ensures { λ r. ⌜ r ≡ L-products (now (a .entry)) (now (b .entry)) ⌝ }
+{
+    let n = lesser(a.len(), b.len());
+    let mut s: i32 = 0;
+    for k in 0..n {
+        s = l_add(s, l_mult(a[k], b[k]));
+    }
+    s
+}
+
+// The sum of the doubled products of two rows, over the entries that both have. Where the second has at most eight entries, of 13 bits, no step
+// but the last can clip.
+pub fn products(a: &[i16], b: &[i16]) -> i32
+    ensures { λ r. ⌜ r ≡ L-products (now (a .entry)) (now (b .entry)) ⌝ }
+{
+    if (b.len() <= 8) & narrow(b) {
+        let s = exact(a, b);
+        return l_add(s, s);
+    }
+    clipped(a, b)
+}
+
+// The sums of a row of 13 bits and itself at each lag, which no step can clip.
+fn exact_lags(a: [i16; 9]) -> [i32; 9]
+    requires { ⌜ all thirteen a ≡ true ⌝ }
+    ensures { λ r. ⌜ r ≡ row 9 (L-lagged a) ⌝ }
+{
+    let b = a;
+    let mut out = [0i32; 9];
+    for i in 0..9 {
+        out[i] = exact(&a[0..9], &b[i..9]) * 2;
+    }
+    out
+}
+
+// The same of any row, clipped at each step.
+fn clipped_lags(a: [i16; 9]) -> [i32; 9]
+    ensures { λ r. ⌜ r ≡ row 9 (L-lagged a) ⌝ }
+{
+    let b = a;
+    let mut out = [0i32; 9];
+    for i in 0..9 {
+        out[i] = clipped(&a[0..9], &b[i..9]);
+    }
+    out
+}
+
+// The sums of the doubled products of a row and itself, at each lag from 0 to 8.
+pub fn lagged(a: [i16; 9]) -> [i32; 9]
+    ensures { λ r. ⌜ r ≡ row 9 (L-lagged a) ⌝ }
+{
+    if narrow(&a[0..9]) {
+        return exact_lags(a);
+    }
+    clipped_lags(a)
 }

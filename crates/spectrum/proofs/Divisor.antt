@@ -26,7 +26,7 @@ use Rattle.operations.proofs.Normal.{Normal, norm-brings, shift-high}
 use Rattle.rows.specs.Choice.{eqZ}
 use Rattle.rows.proofs.Choice.{by-test, either, eqZ-yes}
 use Rattle.rows.proofs.Sum.{L-sum-fits}
-use Rattle.spectrum.specs.Spectrum.{sav0Of, L-ΣpOf, magnitudeOf}
+use Rattle.spectrum.specs.Spectrum.{sav0Of, L-ΣpOf, sizeOf}
 
 -- a long number that is not negative
 pub record Long (x : ℤ) : Type 0 where
@@ -41,12 +41,12 @@ less : (x : ℤ) → ltZ x (pos 0) ≡ true → pos 0 ≤ℤ L-sub (pos 0) x
 unfolding L-sub clamp
 less x t = clamp-mono w32 (pos 0) (pos 0 -ℤ x) (omega (zarith, minus (pos 0) x))
 
-magnitude-long : (x : ℤ) → SFits w32 x → Long (magnitudeOf x)
-unfolding magnitudeOf
+magnitude-long : (x : ℤ) → SFits w32 x → Long (sizeOf x)
+unfolding sizeOf
 magnitude-long x f =
     by-test Long (ltZ x (pos 0)) (L-sub (pos 0) x) x (λ t. long (L-sub (pos 0) x) (less x t) (L-sub-fits (pos 0) x)) (λ t. long x (omega zarith) f)
 
-pub temp-long : (rav1 L-av0 : List ℤ) → Long (magnitudeOf (L-ΣpOf rav1 L-av0))
+pub temp-long : (rav1 L-av0 : List ℤ) → Long (sizeOf (L-ΣpOf rav1 L-av0))
 unfolding L-ΣpOf
 temp-long rav1 L-av0 = magnitude-long _ (L-sum-fits 8 _)
 

@@ -1,5 +1,4 @@
 -- Clause 6.4, spectral comparison, line by line. `L-av0` is the average of 6.2, `rav1` the filter of 6.3.3. Assumes nothing.
-use mathlib.Core.Bool.{Bool}
 use mathlib.Core.List.{List}
 use Prim.Native.Nat.{ℕ, suc}
 use lib.IntN.{ℤ, pos}
@@ -20,8 +19,8 @@ unfoldable pub L-ΣpOf : List ℤ → List ℤ → ℤ
 L-ΣpOf rav1 L-av0 = L-sum 8 (λ k. L-mult (at rav1 (suc k)) (sav0Of L-av0 (suc k)))
 
 -- `IF ( x < 0 ) THEN L_sub( 0, x ) ELSE x`
-unfoldable pub magnitudeOf : ℤ → ℤ
-magnitudeOf x = IF ltZ x (pos 0) THEN L-sub (pos 0) x ELSE x
+unfoldable pub sizeOf : ℤ → ℤ
+sizeOf x = IF ltZ x (pos 0) THEN L-sub (pos 0) x ELSE x
 
 -- `IF ( sav0[0] >= temp ) THEN divshift = 0; temp = div( temp, sav0[0] ); ELSE divshift = 1; temp = sub( temp, sav0[0] );
 --  temp = div( temp, sav0[0] ). IF( divshift == 1 ) THEN L_dm = 32768; ELSE L_dm = 0. L_dm = L_add( L_dm, temp ) << 1`
@@ -45,7 +44,7 @@ measuredOf L-dm shift rav1-0 normrav1 = L-add (L-dm << pos 14 >> shift) (rav1-0 
 unfoldable pub L-dmOf : List ℤ → List ℤ → ℤ → ℤ
 L-dmOf L-av0 rav1 normrav1 =
     let L-Σp = L-ΣpOf rav1 L-av0 in
-    let L-temp = magnitudeOf L-Σp in
+    let L-temp = sizeOf L-Σp in
     IF eqZ L-temp (pos 0) THEN measuredOf (pos 0) (pos 0) (at rav1 0) normrav1 ELSE
     measuredOf (dividedOf L-Σp L-temp (sav0Of L-av0 0)) (norm L-temp) (at rav1 0) normrav1
 
@@ -54,4 +53,4 @@ L-dmOf L-av0 rav1 normrav1 =
 unfoldable pub compareOf : List ℤ → List ℤ → ℤ → ℤ → Compared
 compareOf L-av0 rav1 normrav1 L-lastdm =
     let L-dm = L-dmOf L-av0 rav1 normrav1 in
-    record { dm = L-dm; stat = ltZ (L-sub (magnitudeOf (L-sub L-dm L-lastdm)) (pos 3277)) (pos 0) }
+    record { dm = L-dm; stat = ltZ (L-sub (sizeOf (L-sub L-dm L-lastdm)) (pos 3277)) (pos 0) }

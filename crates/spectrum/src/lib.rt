@@ -3,6 +3,7 @@ ghost use mathlib.Core.Path.{_≡_};
 ghost use Rattle.rows.specs.Rows.{row};
 ghost use Rattle.spectrum.specs.Spectrum as clause;
 use operations::div;
+use operations::l_abs;
 use operations::l_add;
 use operations::l_shl;
 use operations::l_shr;
@@ -10,6 +11,7 @@ use operations::l_sub;
 use operations::norm;
 use operations::shl;
 use operations::sub;
+use operations::topped;
 use rows::products;
 
 // The distance measure L_dm, and whether it stayed.
@@ -28,19 +30,9 @@ fn sav0(av0: [i32; 9]) -> [i16; 9]
     let shift = sub(norm(av0[0]), 3);
     let mut out = [0i16; 9];
     for i in 0..9 {
-        out[i] = l_shr(l_shl(av0[i], shift), 16) as i16;
+        out[i] = topped(av0[i], shift);
     }
     out
-}
-
-// The magnitude, saturated.
-fn magnitude(x: i32) -> i32
-    ensures { λ r. ⌜ r ≡ clause.magnitudeOf x ⌝ }
-{
-    if x < 0 {
-        return l_sub(0, x);
-    }
-    x
 }
 
 // The doubled quotient.
@@ -57,7 +49,7 @@ fn quotient(temp: i16, first: i16) -> i32
 fn divided(sum: i32, size: i32, first: i16) -> i32
     ensures { λ r. ⌜ r ≡ clause.dividedOf sum size first ⌝ }
 {
-    let temp = l_shr(l_shl(size, norm(size)), 16) as i16;
+    let temp = topped(size, norm(size));
     let dm = quotient(temp, shl(first, 3));
     if sum < 0 {
         return l_sub(0, dm);
@@ -81,20 +73,20 @@ fn dm(av0: [i32; 9], rav1: [i16; 9], normrav1: i16) -> i32
 {
     let s = sav0(av0);
     let sum = products(&rav1[1..9], &s[1..9]);
-    let size = magnitude(sum);
+    let size = l_abs(sum);
     if size == 0 {
         return measured(0, 0, rav1[0], normrav1);
     }
     measured(divided(sum, size, s[0]), norm(size), rav1[0], normrav1)
 }
 
-// 6.4.
+// The distance measure, and whether it stayed since the one before.
 pub fn compare(av0: [i32; 9], rav1: [i16; 9], normrav1: i16, lastdm: i32) -> Compared
     ensures { λ r. ⌜ r ≡ clause.compareOf av0 rav1 normrav1 lastdm ⌝ }
 {
     let d = dm(av0, rav1, normrav1);
     Compared {
         dm: d,
-        stat: l_sub(magnitude(l_sub(d, lastdm)), 3277) < 0,
+        stat: l_sub(l_abs(l_sub(d, lastdm)), 3277) < 0,
     }
 }

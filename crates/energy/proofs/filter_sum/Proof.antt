@@ -10,6 +10,7 @@ use mir.Syntax.{w16, w32}
 use Rattle.numbers.specs.Sum.{at}
 use Rattle.numbers.proofs.Read.{ranged, zreads}
 use Rattle.operations.specs.Operations.{L-add, L-mult, _>>_}
+use Rattle.operations.proofs.Laws.{L-mult-comm}
 use Rattle.rows.specs.Rows.{row, L-products}
 use Rattle.rows.proofs.Fill.{row-at, length-row}
 use Rattle.rows.proofs.Sum.{L-sum-ext}
@@ -23,14 +24,14 @@ module _ (acf s rvad : List ℤ) (e : s ≡ row 9 (sacfOf acf)) (nine : length r
   s-at : (k : ℕ) → k < 9 → at s k ≡ sacfOf acf k
   s-at k h = ap (λ (l : List ℤ). at l k) e ∙ row-at 9 (sacfOf acf) k (pos 0) h
 
-  others : (k : ℕ) → k < 8 → L-mult (at s (suc k)) (at rvad (suc k)) ≡ L-mult (sacfOf acf (suc k)) (at rvad (suc k))
-  others k h = ap (λ (z : ℤ). L-mult z (at rvad (suc k))) (s-at (suc k) (omega arith))
+  others : (k : ℕ) → k < 8 → L-mult (at rvad (suc k)) (at s (suc k)) ≡ L-mult (sacfOf acf (suc k)) (at rvad (suc k))
+  others k h = L-mult-comm (at rvad (suc k)) (at s (suc k)) ∙ ap (λ (z : ℤ). L-mult z (at rvad (suc k))) (s-at (suc k) (omega arith))
 
-  sum-is : L-add (L-products (tail s) (tail rvad)) (L-mult (at s 0) (at rvad 0) >> pos 1) ≡ filterSumOf acf rvad
+  sum-is : L-add (L-products (tail rvad) (tail s)) (L-mult (at s 0) (at rvad 0) >> pos 1) ≡ filterSumOf acf rvad
   unfolding filterSumOf
   sum-is =
       ap₂ L-add
-      (tail-products s rvad (ap length e ∙ length-row 9 (sacfOf acf)) nine ∙ L-sum-ext 8 (λ k. L-mult (at s (suc k)) (at rvad (suc k))) (λ k. L-mult (sacfOf acf (suc k)) (at rvad (suc k))) others)
+      (tail-products rvad s nine (ap length e ∙ length-row 9 (sacfOf acf)) ∙ L-sum-ext 8 (λ k. L-mult (at rvad (suc k)) (at s (suc k))) (λ k. L-mult (sacfOf acf (suc k)) (at rvad (suc k))) others)
       (ap (λ (z : ℤ). L-mult z (at rvad 0) >> pos 1) (s-at 0 (omega arith)))
 
 -- ---- of the places

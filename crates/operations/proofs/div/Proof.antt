@@ -2,7 +2,7 @@
 use borrow.Author.Needs.{needs}
 use mathlib.Core.Path.{_≡_, refl, sym, ap, ap₂, _∙_}
 use mathlib.Core.Bool.{true, false}
-use Prim.Native.Nat.{ℕ, zero, suc}
+use Prim.Native.Nat.{zero, suc}
 use lib.IntN.{ℤ, natAbs, pos, negsuc, negℤ, _-ℤ_, _*ℤ_}
 use lib.Signed.{ltZ, shrZ, _<ℤ_}
 use mir.Syntax.{w16, w32}
@@ -10,7 +10,6 @@ use mir.Val.{SFits}
 use mir.Facts.{sfits-lit}
 use Rattle.numbers.proofs.Parts.{zarith, neg, minus, times, of}
 use Rattle.numbers.proofs.Read.{back, same-bits, other-bits, cast-need, zreads}
-use Rattle.numbers.specs.Clamp.{clamp}
 use Rattle.operations.specs.Operations.{over, div}
 use Rattle.operations.proofs.Wide.{clamped}
 use Rattle.operations.proofs.div.Statement.{statement}

@@ -1,9 +1,8 @@
 -- `operations::floor_over` gives the quotient rounded down: for a negative number it divides -1 - x, which is not negative. Assumes nothing.
 use mathlib.Core.Path.{_≡_, refl, sym, ap, _∙_}
 use mathlib.Core.Bool.{true, false}
-use Prim.Native.Nat.{ℕ, suc, _/_, _^_, _<_, _≤_}
+use Prim.Native.Nat.{ℕ, _/_, _^_, _<_}
 use native.Mathlib.Nat.{div-le-self, lt-of-le-of-lt}
-use native.Mathlib.Omega.{arith}
 use lib.IntN.{ℤ, natAbs, pos, negsuc, _-ℤ_}
 use lib.Signed.{mag, ltZ, quotZ, shrZ, _<ℤ_}
 use mir.Syntax.{w32}

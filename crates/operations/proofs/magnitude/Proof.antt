@@ -3,7 +3,7 @@ use mathlib.Core.Path.{_≡_}
 use lib.IntN.{ℤ, natAbs, pos, _-ℤ_}
 use lib.Dec.{T}
 use lib.Signed.{ltZ, nonNeg}
-use mathlib.Core.Bool.{true, false}
+use mathlib.Core.Bool.{true}
 use mir.Syntax.{w32, w64}
 use mir.Val.{Fits, SFits}
 use Rattle.numbers.proofs.Parts.{zarith, of, sign, minus}

@@ -6,15 +6,15 @@ use native.Mathlib.Omega.{arith}
 use lib.IntN.{ℤ, pos}
 use lib.ListN.{length, take, length-set}
 use mir.Syntax.{w16, w32}
+use mir.Val.{toZ, ofZ}
 use mir.Facts.{sfits-lit}
 use Rattle.numbers.specs.Sum.{at}
 use Rattle.numbers.proofs.Read.{back, ranged, same-bits, other-bits}
-use Rattle.operations.specs.Operations.{sub, norm, _<<_, _>>_}
+use Rattle.operations.specs.Operations.{sub, norm, topped}
 use Rattle.rows.specs.Rows.{row}
 use Rattle.rows.proofs.Choice.{by-yes, by-no, eqZ-yes, eqZ-no}
 use Rattle.rows.proofs.Fill.{fill-more, fill-all}
 use Rattle.spectrum.specs.Spectrum.{sav0Of}
-use Rattle.operations.proofs.Top.{top-need, top-back}
 use Rattle.spectrum.proofs.sav0.Statement.{statement}
 use Rattle.spectrum.proofs.sav0.Tie as tie
 
@@ -29,9 +29,6 @@ shift-is : (c : tie.After-sub Inv-loop μ-loop) → c .sub .result ≡ sub (norm
 shift-is c =
     let n = c .before in
     c .sub .ensures ∙ ap (λ (x : ℤ). sub x (pos 3)) (back w16 (n .norm .ok) ∙ n .norm .ensures ∙ ap norm (back w32 (n .before .norm-arg .given)))
-
-halved : (c : tie.After-l-shr Inv-loop μ-loop) → c .l-shr .result ≡ c .before .l-shl .result >> pos 16
-halved c = c .l-shr .ensures ∙ ap (λ (x : ℤ). x >> pos 16) (back w32 (c .before .l-shl .ok))
 
 array-copy-out-if1 : tie.Need-array-copy-out-if1 Inv-loop μ-loop
 array-copy-out-if1 c = search needs
@@ -58,20 +55,14 @@ loop-holds : tie.Need-loop-holds Inv-loop μ-loop
 unfolding row
 loop-holds c = search needs
 
-mul-l-shl : tie.Need-mul-l-shl Inv-loop μ-loop
-mul-l-shl c = search needs
+mul-topped : tie.Need-mul-topped Inv-loop μ-loop
+mul-topped c = search needs
 
-array-copy-out-l-shl : tie.Need-array-copy-out-l-shl Inv-loop μ-loop
-array-copy-out-l-shl c = search needs
+array-copy-out-topped : tie.Need-array-copy-out-topped Inv-loop μ-loop
+array-copy-out-topped c = search needs
 
-l-shl-requires : tie.Need-l-shl-requires Inv-loop μ-loop
-l-shl-requires c κs = search needs
-
-l-shr-requires : tie.Need-l-shr-requires Inv-loop μ-loop
-l-shr-requires c κs = search needs
-
-cast-out : tie.Need-cast-out Inv-loop μ-loop
-cast-out c = top-need (c .before .l-shl .result) 16 (omega arith) (ranged w32 (c .before .l-shl .result) (c .before .l-shl .ok)) (halved c)
+topped-requires : tie.Need-topped-requires Inv-loop μ-loop
+topped-requires c κs = search needs
 
 mul-out : tie.Need-mul-out Inv-loop μ-loop
 mul-out c = search needs
@@ -88,18 +79,18 @@ loop-less c = search needs
 loop-again : tie.Need-loop-again Inv-loop μ-loop
 unfolding sav0Of
 loop-again c =
-    let b = c .before in
-    let a = b .before in
+    let a = c .before in
     let t = a .before .before in
     let s = t .before in
     let v = t .loop .inv in
     let i = t .loop .i in
     let l = s .before .before .before .before .before .args .t1 in
-    let shift = sub (norm (at l 0)) (pos 3) in
-    let e : b .l-shl .result ≡ at l i << shift = b .l-shl .ensures ∙ ap₂ _<<_ (back w32 (a .l-shl-arg .given)) (back w16 (s .sub .ok) ∙ shift-is s) in
-    let n = by-no (pos 4095) (at l i << shift >> pos 16) (eqZ-no (other-bits w32 (s .before .before .before .if1 .left))) in
-    let d = top-back (b .l-shl .result) 16 (omega arith) (ranged w32 (b .l-shl .result) (b .l-shl .ok)) (halved c) ∙ ap (λ (x : ℤ). x >> pos 16) e ∙ sym n in
-    (omega arith, simp length-set (v .1), fill-more _ _ i _ (omega arith) (v .2) d)
+    let e : toZ w16 (ofZ w16 (c .topped .result)) ≡ sav0Of l i =
+    back w16 (c .topped .ok)
+    ∙ c .topped .ensures
+    ∙ ap₂ topped (back w32 (a .topped-arg .given)) (back w16 (s .sub .ok) ∙ shift-is s)
+    ∙ sym (by-no _ _ (eqZ-no (other-bits w32 (s .before .before .before .if1 .left)))) in
+    (omega arith, simp length-set (v .1), fill-more _ _ i _ (omega arith) (v .2) e)
 
 returns-2 : tie.Need-returns-2 Inv-loop μ-loop
 returns-2 c = fill-all _ _ 9 _ (c .before .loop .inv .1) (omega arith) (c .before .loop .inv .2)
@@ -116,11 +107,9 @@ sav0-spec =
     norm-requires
     sub-requires
     loop-holds
-    mul-l-shl
-    array-copy-out-l-shl
-    l-shl-requires
-    l-shr-requires
-    cast-out
+    mul-topped
+    array-copy-out-topped
+    topped-requires
     mul-out
     array-set-from-out
     add-i

@@ -1,15 +1,15 @@
--- `predictor::topped` gives the top half of the shifted number, which fits 16 bits. Assumes nothing.
+-- `operations::topped` gives the top half of the shifted number, which fits 16 bits. Assumes nothing.
 use borrow.Author.Needs.{needs}
 use mathlib.Core.Path.{_≡_, ap, _∙_}
 use native.Mathlib.Omega.{arith}
 use lib.IntN.{ℤ, pos}
-use mir.Syntax.{w16, w32}
+use mir.Syntax.{w32}
 use mir.Val.{SFits}
 use Rattle.numbers.proofs.Read.{ranged, zreads}
 use Rattle.operations.specs.Operations.{_<<_, _>>_}
 use Rattle.operations.proofs.Top.{top-need, top-back}
-use Rattle.predictor.proofs.topped.Statement.{statement}
-use Rattle.predictor.proofs.topped.Tie as tie
+use Rattle.operations.proofs.topped.Statement.{statement}
+use Rattle.operations.proofs.topped.Tie as tie
 
 module _ (c : tie.After-l-shr) where
   abbrev s : tie.Start
