@@ -1,4 +1,5 @@
 pub mod Turns
 pub mod Predictor
+pub mod StepUp
 pub mod Autocorrelation
 pub mod Bounds
