@@ -16,21 +16,18 @@ use mir.Val.{SFits}
 use Rattle.numbers.specs.Sum.{at}
 use Rattle.numbers.proofs.Parts.{up, zarith, plus, minus, times, of, sign}
 use Rattle.numbers.proofs.Floor.{floor-mag}
-use Rattle.operations.specs.Operations.{sub, L-add, shiftRight, _<<ₛ_}
-use Rattle.operations.proofs.Laws.{sub-exact, L-add-exact, left-exact}
+use Rattle.operations.specs.Operations.{sub, shiftRight, _<<ₛ_}
+use Rattle.operations.proofs.Laws.{sub-exact, left-exact}
 use Rattle.rows.specs.Rows.{row}
 use Rattle.rows.proofs.Choice.{either}
 use Rattle.rows.proofs.Fill.{length-row, row-at}
 use Rattle.averages.specs.declared.Averages.{Averages}
 use Rattle.averages.specs.Averages.{L-tempOf, L-av0Of, L-av1Of, storedOf, nextOf, averageOf}
+use Rattle.averages.proofs.Quarters.{Quarter, Four, av0-exact}
 use Rattle.averages.proofs.Pointers.{Pointer, inside-is, next-pointer}
 use Rattle.averages.proofs.Stored.{stored-length, stored-each}
 
 -- ---- what is kept
--- -2^29..2^29-1: a number of 32 bits, two places down
-abbrev pub Quarter : ℤ → Type 0
-Quarter z = (negsuc 536870911 ≤ℤ z) × (z ≤ℤ pos 536870911)
-
 -- the first entry of each frame is not negative (past the end an entry counts as 0)
 abbrev pub Firsts : List ℤ → Type 0
 Firsts h = (k : ℕ) → k % 9 ≡ 0 → pos 0 ≤ℤ at h k
@@ -118,27 +115,11 @@ module _ (L-ACF : List ℤ) (scalvad : ℤ) (g : Incoming L-ACF scalvad) where
   temp-first = subst (λ (z : ℤ). pos 0 ≤ℤ z) (sym (temp-is 0)) (down-first (at L-ACF 0) (scal scalvad) (g .first))
 
 -- ---- the sums of four: none is clipped
-module _ (h f : List ℤ) (i : ℕ) (old : (k : ℕ) → Quarter (at h k)) (new : Quarter (at f i)) where
-  pub av0-exact : L-av0Of h f i ≡ at h (i + 18) +ℤ (at h (i + 9) +ℤ (at h i +ℤ at f i))
-  unfolding L-av0Of
-  av0-exact =
-      let a = old i in
-      let b = old (i + 9) in
-      let c = old (i + 18) in
-      let x = at h i +ℤ at f i in
-      let y = at h (i + 9) +ℤ x in
-      let u = plus (at h i) (at f i) in
-      let v = plus (at h (i + 9)) x in
-      let w = plus (at h (i + 18)) y in
-      ap (λ (t : ℤ). L-add (at h (i + 18)) (L-add (at h (i + 9)) t)) (L-add-exact (at h i) (at f i) (omega zarith))
-      ∙ ap (L-add (at h (i + 18))) (L-add-exact (at h (i + 9)) x (omega zarith))
-      ∙ L-add-exact (at h (i + 18)) y (omega zarith)
-
-  pub av0-first : pos 0 ≤ℤ at h i → pos 0 ≤ℤ at h (i + 9) → pos 0 ≤ℤ at h (i + 18) → pos 0 ≤ℤ at f i → pos 0 ≤ℤ L-av0Of h f i
-  av0-first p q r s =
-      let x = at h i +ℤ at f i in
-      let y = at h (i + 9) +ℤ x in
-      rw av0-exact (omega (zarith, plus (at h i) (at f i), plus (at h (i + 9)) x, plus (at h (i + 18)) y))
+pub av0-first : (h f : List ℤ) (i : ℕ) → Four h f i → pos 0 ≤ℤ at h i → pos 0 ≤ℤ at h (i + 9) → pos 0 ≤ℤ at h (i + 18) → pos 0 ≤ℤ at f i → pos 0 ≤ℤ L-av0Of h f i
+av0-first h f i q a b c d =
+    let x = at h i +ℤ at f i in
+    let y = at h (i + 9) +ℤ x in
+    rw (av0-exact h f i q) (omega (zarith, plus (at h i) (at f i), plus (at h (i + 9)) x, plus (at h (i + 18)) y))
 
 -- ---- a frame stored at a multiple of nine
 module _ (h : List ℤ) (q : ℕ) (f : List ℤ) (room : q + 9 ≤ length h) (nines : q % 9 ≡ 0) (nine : length f ≡ 9) where
@@ -181,13 +162,16 @@ module _ (L-ACF : List ℤ) (scalvad : ℤ) (L-sacf : List ℤ) (pt-sacf : ℕ) 
   frame-in : (i : ℕ) → i < 9 → Quarter (at L-temp i)
   frame-in i l = subst Quarter (sym (temp-at i l)) (temp-in L-ACF scalvad g i)
 
+  four : (i : ℕ) → i < 9 → Four L-sacf L-temp i
+  four i l = record { first = h .each i; second = h .each (i + 9); third = h .each (i + 18); new = frame-in i l }
+
   frame-first : pos 0 ≤ℤ at L-temp 0
   frame-first = subst (λ (z : ℤ). pos 0 ≤ℤ z) (sym (temp-at 0 (omega arith))) (temp-first L-ACF scalvad g)
 
   sum-first : pos 0 ≤ℤ at L-av0 0
   sum-first =
       subst (λ (z : ℤ). pos 0 ≤ℤ z) (sym (row-at 9 (L-av0Of L-sacf L-temp) 0 (pos 0) (omega arith)))
-      (av0-first L-sacf L-temp 0 (h .each) (frame-in 0 (omega arith)) (h .firsts 0 (omega arith)) (h .firsts 9 (omega arith)) (h .firsts 18 (omega arith)) frame-first)
+      (av0-first L-sacf L-temp 0 (four 0 (omega arith)) (h .firsts 0 (omega arith)) (h .firsts 9 (omega arith)) (h .firsts 18 (omega arith)) frame-first)
 
   old-first : pos 0 ≤ℤ at L-av1 0
   unfolding L-av1Of
@@ -225,5 +209,5 @@ module _ (L-ACF : List ℤ) (scalvad : ℤ) (L-sacf : List ℤ) (pt-sacf : ℕ) 
   average-exact i l =
       ap (λ (r : Averages). at (r .av0) i) clause-is
       ∙ row-at 9 (L-av0Of L-sacf L-temp) i (pos 0) l
-      ∙ av0-exact L-sacf L-temp i (h .each) (frame-in i l)
+      ∙ av0-exact L-sacf L-temp i (four i l)
       ∙ ap (λ (z : ℤ). at L-sacf (i + 18) +ℤ (at L-sacf (i + 9) +ℤ (at L-sacf i +ℤ z))) (temp-at i l)

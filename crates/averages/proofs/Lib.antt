@@ -1,3 +1,4 @@
 pub mod Pointers
 pub mod Stored
+pub mod Quarters
 pub mod Kept

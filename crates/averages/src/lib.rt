@@ -1,6 +1,9 @@
 // Clause 6.2: the average over four frames, the one of four frames before, and the two histories that they come from.
+ghost use mathlib.Core.Bool.{_&&_};
 ghost use mathlib.Core.Path.{_≡_};
 ghost use Prim.Native.Nat.{_≤_};
+ghost use lib.IntN.{pos, negsuc};
+ghost use lib.Signed.{leZ};
 ghost use Rattle.rows.specs.Rows.{row};
 ghost use Rattle.averages.specs.Averages as clause;
 use operations::l_add;
@@ -34,7 +37,7 @@ fn inside(last: usize, pt: usize) -> usize
 
 // The pointer of the next frame.
 fn next(last: usize, pt: usize) -> usize
-    requires { ⌜ pt ≤ 27 ⌝ }
+    requires { ⌜ pt ≤ clause.LAST-SAV0 ⌝ }
     ensures { λ r. ⌜ r ≡ clause.nextOf last pt ⌝ }
 {
     if pt == last {
@@ -63,11 +66,32 @@ fn av0_at(sacf: [i32; 27], frame: [i32; 9], i: usize) -> i32
     l_add(sacf[i + 18], l_add(sacf[i + 9], l_add(sacf[i], frame[i])))
 }
 
-// The sum over four frames.
+// Whether a number is one of -2^29..2^29-1, of which four add up without a clip.
+fn quarter(z: i32) -> bool
+    ensures { λ r. ⌜ r ≡ (leZ (negsuc 536870911) z && leZ z (pos 536870911)) ⌝ }
+{
+    (z >= -536870912) & (z <= 536870911)
+}
+
+// The sum over four frames. For speed, one test says whether all are quarters, as in a valid state: then no sum needs its clip.
 fn av0(sacf: [i32; 27], frame: [i32; 9]) -> [i32; 9]
     ensures { λ r. ⌜ r ≡ row 9 (clause.L-av0Of sacf frame) ⌝ }
 {
+    let mut quarters = true;
+    for i in 0..9 {
+        quarters = quarters
+            & quarter(sacf[i])
+            & quarter(sacf[i + 9])
+            & quarter(sacf[i + 18])
+            & quarter(frame[i]);
+    }
     let mut out = [0i32; 9];
+    if quarters {
+        for i in 0..9 {
+            out[i] = sacf[i + 18] + (sacf[i + 9] + (sacf[i] + frame[i]));
+        }
+        return out;
+    }
     for i in 0..9 {
         out[i] = av0_at(sacf, frame, i);
     }
@@ -76,7 +100,7 @@ fn av0(sacf: [i32; 27], frame: [i32; 9]) -> [i32; 9]
 
 // The sum of four frames before.
 fn av1(sav0: [i32; 36], pt: usize) -> [i32; 9]
-    requires { ⌜ pt ≤ 27 ⌝ }
+    requires { ⌜ pt ≤ clause.LAST-SAV0 ⌝ }
     ensures { λ r. ⌜ r ≡ row 9 (clause.L-av1Of sav0 pt) ⌝ }
 {
     let mut out = [0i32; 9];
@@ -88,7 +112,7 @@ fn av1(sav0: [i32; 36], pt: usize) -> [i32; 9]
 
 // The frame in place of the oldest of three.
 fn stored27(history: [i32; 27], pt: usize, frame: [i32; 9]) -> [i32; 27]
-    requires { ⌜ pt ≤ 18 ⌝ }
+    requires { ⌜ pt ≤ clause.LAST-SACF ⌝ }
     ensures { λ r. ⌜ r ≡ clause.storedOf history pt frame ⌝ }
 {
     let mut out = history;
@@ -100,7 +124,7 @@ fn stored27(history: [i32; 27], pt: usize, frame: [i32; 9]) -> [i32; 27]
 
 // The average in place of the oldest of four.
 fn stored36(history: [i32; 36], pt: usize, frame: [i32; 9]) -> [i32; 36]
-    requires { ⌜ pt ≤ 27 ⌝ }
+    requires { ⌜ pt ≤ clause.LAST-SAV0 ⌝ }
     ensures { λ r. ⌜ r ≡ clause.storedOf history pt frame ⌝ }
 {
     let mut out = history;
@@ -110,7 +134,7 @@ fn stored36(history: [i32; 36], pt: usize, frame: [i32; 9]) -> [i32; 36]
     out
 }
 
-// 6.2.
+// The two averages of a frame, and the histories with their pointers after it.
 pub fn average(
     acf: [i32; 9],
     scalvad: i16,

@@ -1,12 +1,12 @@
 -- Clause 6.3.2, whatever the reflection coefficients are: aav1[0] is 1024, and each aav1[i] is within 4096 of 0, since each L_coef[i] is a number
 -- of 32 bits and the first is never written. Assumes nothing.
-use mathlib.Core.Path.{_≡_, refl, sym, ap, _∙_, subst}
+use mathlib.Core.Path.{_≡_, refl, ap, _∙_}
 use mathlib.Core.Bool.{false, _&&_}
 use mathlib.Core.List.{List}
 use Prim.Native.Nat.{ℕ, zero, suc, _-_, _^_, _≤_}
 use native.Mathlib.Omega.{arith}
 use lib.Dec.{eqb, leb, ltb}
-use borrow.Author.Tests.{ltb-true, ltb-false, lt-leb, ne-eqb}
+use borrow.Author.Tests.{lt-leb, ne-eqb}
 use lib.IntN.{ℤ, natAbs, pos}
 use mir.Syntax.{w32}
 use mir.Val.{SFits}
@@ -17,7 +17,7 @@ use Rattle.numbers.proofs.Wrap.{wrap-fits}
 use Rattle.operations.specs.Operations.{L-mult, shiftLeft, shiftRight, _<<_, _>>_}
 use Rattle.operations.proofs.Laws.{left-exact, L-add-fits}
 use Rattle.rows.specs.Rows.{row}
-use Rattle.rows.proofs.Choice.{by-test, by-yes, by-no, either}
+use Rattle.rows.proofs.Choice.{by-test, by-yes, by-no}
 use Rattle.rows.proofs.Fill.{row-at, row-all}
 use Rattle.predictor.specs.StepUp.{raisedOf, L-coefOf, aav1Of}
 

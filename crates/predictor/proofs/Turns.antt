@@ -1,16 +1,13 @@
--- The Schur recursion and the step-up procedure, a turn at a time. Assumes nothing.
+-- The Schur recursion, a turn at a time. Assumes nothing.
 use mathlib.Core.Path.{_≡_}
 use mathlib.Core.Bool.{true, false}
 use mathlib.Core.List.{List}
-use Prim.Native.Nat.{ℕ, zero, suc, _+_, _-_, _≤_}
-use native.Mathlib.Omega.{arith}
+use Prim.Native.Nat.{ℕ, suc, _+_, _-_}
 use lib.IntN.{ℤ}
 use lib.ListN.{set}
 use Rattle.numbers.specs.Sum.{at}
 use Rattle.rows.specs.Choice.{IF_THEN_ELSE_}
-use Rattle.rows.specs.Rows.{row}
 use Rattle.predictor.specs.Schur.{Arrays, leavesOf, coefficientOf, turnedOf, innerFrom, outerFrom}
-use Rattle.predictor.specs.StepUp.{raisedOf, L-coefOf}
 
 -- ---- the inner loop, with l turns left
 module _ (N : ℕ) (c : ℤ) (l m : ℕ) (a : Arrays) where
@@ -50,12 +47,3 @@ module _ (N l n : ℕ) (a : Arrays) (vpar : List ℤ) where
   pub outer-last : l ≡ 1 → leavesOf (at (a .P) 0) (at (a .P) 1) ≡ false → outerFrom N l n a vpar ≡ set vpar n c
   unfolding outerFrom IF_THEN_ELSE_
   outer-last e t = rw (e, t)
-
--- ---- one order up
-pub coef-next : (vpar : List ℤ) (m : ℕ) → 1 ≤ m → row 9 (raisedOf (L-coefOf vpar (m - 1)) (at vpar m) m) ≡ L-coefOf vpar (m + 1 - 1)
-unfolding L-coefOf
-coef-next vpar zero h = absurd (omega arith)
-coef-next vpar (suc m) h =
-    let d : suc m - 1 ≡ m = omega arith in
-    let e : suc m + 1 - 1 ≡ suc m = omega arith in
-    rw (d, e)

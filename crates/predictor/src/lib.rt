@@ -1,6 +1,7 @@
 // Clause 6.3: from the averaged autocorrelations of four frames before to the filter that whitens them.
+ghost use mathlib.Core.List.{_++_};
 ghost use mathlib.Core.Path.{_≡_};
-ghost use Prim.Native.Nat.{_≤_};
+ghost use Prim.Native.Nat.{_-_, _<_, _≤_};
 ghost use lib.IntN.{pos};
 ghost use Rattle.operations.specs.Operations as op;
 ghost use Rattle.rows.specs.Rows.{row};
@@ -133,7 +134,11 @@ pub fn vpar(av1: [i32; 9]) -> [i16; 9]
 
 // ---- 6.3.2
 
-// One coefficient below the order, from itself and the one that mirrors it, one order up.
+// Where L_coef[0] stands in the row of 17 that holds L_coef. The eight entries below it are 0, so that one formula gives each entry of an order:
+// for L_coef[m] it is the clause's shift, and above that it is 0. The compiler works on four entries at once in such a loop.
+const FIRST: usize = 8;
+
+// One coefficient, one order up, from itself and the one that mirrors it.
 fn lifted(coef: i32, mirror: i32, v: i16) -> i32
     ensures { λ r. ⌜ r ≡ op.L-add coef (op.L-mult v (op._>>_ mirror (pos 16))) ⌝ }
 {
@@ -141,27 +146,29 @@ fn lifted(coef: i32, mirror: i32, v: i16) -> i32
     l_add(coef, l_mult(v, temp))
 }
 
-// The coefficients, one order up.
-fn raised(coef: [i32; 9], v: i16, m: usize) -> [i32; 9]
-    requires { ⌜ (1 ≤ m) × (m ≤ 8) ⌝ }
-    ensures { λ r. ⌜ r ≡ row 9 (step.raisedOf coef v m) ⌝ }
+// The coefficients after the order m, from those after the order before. From the entry n on they are 0 and stay.
+fn raised(coef: [i32; 17], vpar: [i16; 9], m: usize, n: usize) -> [i32; 17]
+    requires { ⌜ (1 ≤ m) × (m < n) × (n ≤ 9) × (coef ≡ row 8 (λ i. pos 0) ++ step.L-coefOf vpar (m - 1)) ⌝ }
+    ensures { λ r. ⌜ r ≡ row 8 (λ i. pos 0) ++ step.L-coefOf vpar m ⌝ }
 {
     let mut out = coef;
-    for i in 1..m {
-        out[i] = lifted(coef[i], coef[m - i], v);
+    for i in 1..n {
+        out[FIRST + i] = lifted(coef[FIRST + i], coef[FIRST + m - i], vpar[m]);
     }
-    out[m] = l_shl(v as i32, 14);
     out
 }
 
-// The coefficients after the order 8.
-fn coefficients(vpar: [i16; 9]) -> [i32; 9]
-    ensures { λ r. ⌜ r ≡ step.L-coefOf vpar 8 ⌝ }
+// The coefficients after the order 8. For speed, the first four orders are made without the entries from 5 on, which are 0.
+fn coefficients(vpar: [i16; 9]) -> [i32; 17]
+    ensures { λ r. ⌜ r ≡ row 8 (λ i. pos 0) ++ step.L-coefOf vpar 8 ⌝ }
 {
-    let mut coef = [0i32; 9];
-    coef[0] = l_shl(16384, 15);
-    for m in 1..9 {
-        coef = raised(coef, vpar[m], m);
+    let mut coef = [0i32; 17];
+    coef[FIRST] = l_shl(16384, 15);
+    for m in 1..5 {
+        coef = raised(coef, vpar, m, 5);
+    }
+    for m in 5..9 {
+        coef = raised(coef, vpar, m, 9);
     }
     coef
 }
@@ -173,7 +180,7 @@ pub fn aav1(vpar: [i16; 9]) -> [i16; 9]
     let coef = coefficients(vpar);
     let mut out = [0i16; 9];
     for i in 0..9 {
-        out[i] = l_shr(coef[i], 19) as i16;
+        out[i] = l_shr(coef[FIRST + i], 19) as i16;
     }
     out
 }

@@ -3,7 +3,7 @@ use borrow.Author.Needs.{needs}
 use mathlib.Core.Path.{_≡_, ap, _∙_}
 use native.Mathlib.Omega.{arith}
 use lib.IntN.{pos}
-use mir.Syntax.{w16, w32}
+use mir.Syntax.{w32}
 use Rattle.numbers.proofs.Read.{back, ranged, zreads}
 use Rattle.operations.specs.Operations.{L-add, L-mult, _>>_}
 use Rattle.operations.proofs.Top.{top-fits, top-need}
