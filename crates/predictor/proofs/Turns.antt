@@ -1,13 +1,20 @@
--- The Schur recursion, a turn at a time. Assumes nothing.
-use mathlib.Core.Path.{_≡_}
-use mathlib.Core.Bool.{true, false}
+-- The Schur recursion, a turn at a time, and its array K kept backwards. Assumes nothing.
+use mathlib.Core.Path.{_≡_, sym, ap, _∙_}
+use mathlib.Core.Bool.{true, false, _&&_}
 use mathlib.Core.List.{List}
-use Prim.Native.Nat.{ℕ, suc, _+_, _-_}
-use lib.IntN.{ℤ}
-use lib.ListN.{set}
+use Prim.Native.Nat.{ℕ, suc, _+_, _-_, _<_, _≤_}
+use native.Mathlib.Omega.{arith}
+use lib.Dec.{eqb, leb}
+use borrow.Author.Tests.{leb-true, le-leb, eqb-true, eqb-false}
+use lib.IntN.{ℤ, pos}
+use lib.ListN.{length, set, length-set}
+use lib.Seq.{getD-set-same, getD-set-other, ext-getD}
 use Rattle.numbers.specs.Sum.{at}
 use Rattle.rows.specs.Choice.{IF_THEN_ELSE_}
-use Rattle.predictor.specs.Schur.{Arrays, leavesOf, coefficientOf, turnedOf, innerFrom, outerFrom}
+use Rattle.rows.specs.Rows.{row}
+use Rattle.rows.proofs.Choice.{and-right, both, by-yes, by-no, either}
+use Rattle.rows.proofs.Fill.{length-row, row-at}
+use Rattle.predictor.specs.Schur.{Arrays, KOf, leavesOf, coefficientOf, turnedOf, innerFrom, outerFrom}
 
 -- ---- the inner loop, with l turns left
 module _ (N : ℕ) (c : ℤ) (l m : ℕ) (a : Arrays) where
@@ -15,7 +22,7 @@ module _ (N : ℕ) (c : ℤ) (l m : ℕ) (a : Arrays) where
   unfolding innerFrom
   inner-done e = rw e
 
-  pub inner-next : (j : ℕ) → l ≡ suc j
+  inner-next : (j : ℕ) → l ≡ suc j
       → innerFrom N c l m a
       ≡ innerFrom N c j (m + 1) (record {
         P = set (a .P) m (turnedOf (at (a .P) (m + 1)) (at (a .K) (N + 1 - m)) c);
@@ -23,6 +30,57 @@ module _ (N : ℕ) (c : ℤ) (l m : ℕ) (a : Arrays) where
       })
   unfolding innerFrom
   inner-next j e = rw e
+
+-- ---- the arrays of the clause, from P and from K backwards
+abbrev pub arrays : ℕ → List ℤ → List ℤ → Arrays
+arrays N p k = record { P = p; K = row 9 (KOf N k) }
+
+module _ (N m : ℕ) (k : List ℤ) (low : 1 ≤ m) (high : m < N) (most : N ≤ 8) (nine : length k ≡ 9) where
+  back-at : (l : List ℤ) → KOf N l (N + 1 - m) ≡ at l m
+  unfolding KOf
+  back-at l =
+      let e : N + 1 - (N + 1 - m) ≡ m = omega arith in
+      by-yes _ _ (both (le-leb 2 (N + 1 - m) (omega arith)) (le-leb (N + 1 - m) N (omega arith))) ∙ ap (at l) e
+
+  mirror-at : at (row 9 (KOf N k)) (N + 1 - m) ≡ at k m
+  mirror-at = row-at 9 (KOf N k) (N + 1 - m) (pos 0) (omega arith) ∙ back-at k
+
+  -- an entry of K that is not stored
+  other : (j : ℕ) (z : ℤ) → (j ≡ N + 1 - m → ⊥) → KOf N k j ≡ KOf N (set k m z) j
+  unfolding KOf
+  other j z h =
+      either (KOf N k j ≡ KOf N (set k m z) j) (leb 2 j && leb j N)
+      (λ t.
+      let b = leb-true j N (and-right (leb 2 j) (leb j N) t) in
+      by-yes _ _ t ∙ sym (getD-set-other k m (N + 1 - j) z (pos 0) (λ e. h (omega arith))) ∙ sym (by-yes _ _ t))
+      (λ t. by-no _ _ t ∙ sym (by-no _ _ t))
+
+  mirror-set : (z : ℤ) → set (row 9 (KOf N k)) (N + 1 - m) z ≡ row 9 (KOf N (set k m z))
+  mirror-set z =
+      let l = row 9 (KOf N k) in
+      let n = N + 1 - m in
+      let s : length (set l n z) ≡ 9 = simp length-set (length-row 9 (KOf N k)) in
+      ext-getD (pos 0) (set l n z) (row 9 (KOf N (set k m z))) (s ∙ sym (length-row 9 (KOf N (set k m z))))
+      (λ j i.
+      let r = row-at 9 (KOf N (set k m z)) j (pos 0) (omega (arith, s)) in
+      either (at (set l n z) j ≡ at (row 9 (KOf N (set k m z))) j) (eqb j n)
+      (λ t.
+      let e = eqb-true j n t in
+      ap (at (set l n z)) e
+      ∙ getD-set-same l n z (pos 0) (omega (arith, length-row 9 (KOf N k)))
+      ∙ sym (r ∙ ap (KOf N (set k m z)) e ∙ back-at (set k m z) ∙ getD-set-same k m z (pos 0) (omega arith)))
+      (λ t.
+      let e = eqb-false j n t in
+      getD-set-other l n j z (pos 0) e ∙ row-at 9 (KOf N k) j (pos 0) (omega (arith, s)) ∙ other j z e ∙ sym r))
+
+  -- a turn of the inner loop, with l turns left
+  pub inner-turn : (c : ℤ) (l j : ℕ) (p : List ℤ) → l ≡ suc j
+      → innerFrom N c l m (arrays N p k)
+      ≡ innerFrom N c j (m + 1) (arrays N (set p m (turnedOf (at p (m + 1)) (at k m) c)) (set k m (turnedOf (at k m) (at p (m + 1)) c)))
+  inner-turn c l j p e =
+      inner-next N c l m (arrays N p k) j e
+      ∙ ap (λ (y : ℤ). innerFrom N c j (m + 1) (record { P = set p m (turnedOf (at p (m + 1)) y c); K = set (row 9 (KOf N k)) (N + 1 - m) (turnedOf y (at p (m + 1)) c) })) mirror-at
+      ∙ ap (λ (q : List ℤ). innerFrom N c j (m + 1) (record { P = set p m (turnedOf (at p (m + 1)) (at k m) c); K = q })) (mirror-set (turnedOf (at k m) (at p (m + 1)) c))
 
 -- ---- the outer loop, with l turns left
 module _ (N l n : ℕ) (a : Arrays) (vpar : List ℤ) where

@@ -54,38 +54,12 @@ fn turned(x: i16, y: i16, c: i16) -> i16
     add(x, mult_r(y, c))
 }
 
-// One entry of the array K.
-fn mirror_at(order: usize, sacf: [i16; 9], j: usize) -> i16
-    requires { ⌜ order ≤ 8 ⌝ }
-    ensures { λ r. ⌜ r ≡ schur.KOf order sacf j ⌝ }
-{
-    if j < 2 {
-        return 0;
-    }
-    if j > order {
-        return 0;
-    }
-    sacf[order + 1 - j]
-}
-
-// The array K at the start.
-fn mirrored(order: usize, sacf: [i16; 9]) -> [i16; 9]
-    requires { ⌜ order ≤ 8 ⌝ }
-    ensures { λ r. ⌜ r ≡ row 9 (schur.KOf order sacf) ⌝ }
-{
-    let mut out = [0i16; 9];
-    for j in 0..9 {
-        out[j] = mirror_at(order, sacf, j);
-    }
-    out
-}
-
-// The Schur recursion of an order up to 8.
+// The Schur recursion of an order up to 8. K is kept backwards, `k[m]` for the clause's K[9-m], so that its start is sacf, as that of P is.
 fn recursion(order: usize, sacf: [i16; 9]) -> [i16; 9]
     requires { ⌜ order ≤ 8 ⌝ }
     ensures { λ r. ⌜ r ≡ schur.schurOf order sacf ⌝ }
 {
-    let mut k = mirrored(order, sacf);
+    let mut k = sacf;
     let mut p = sacf;
     let mut v = [0i16; 9];
     'outer: for n in 1..(order + 1) {
@@ -102,9 +76,9 @@ fn recursion(order: usize, sacf: [i16; 9]) -> [i16; 9]
         p[0] = turned(a, b, c);
         for m in 1..(order + 1 - n) {
             let x = p[m + 1];
-            let y = k[order + 1 - m];
+            let y = k[m];
             p[m] = turned(x, y, c);
-            k[order + 1 - m] = turned(y, x, c);
+            k[m] = turned(y, x, c);
         }
     }
     v

@@ -1,9 +1,9 @@
 -- `predictor::recursion` gives the reflection coefficients. The invariants: what is left of each loop, from the arrays as they are, is what it was
 -- at its start. Assumes nothing.
 use borrow.Author.Needs.{needs}
-use mathlib.Core.Path.{_≡_, sym, ap, ap₂, _∙_}
+use mathlib.Core.Path.{_≡_, refl, sym, ap₂, _∙_}
 use mathlib.Core.List.{List}
-use Prim.Native.Nat.{suc, _+_, _-_, _≤_}
+use Prim.Native.Nat.{ℕ, suc, _+_, _-_, _≤_}
 use native.Mathlib.Omega.{arith}
 use lib.IntN.{ℤ, pos}
 use lib.ListN.{length, length-set, replicate}
@@ -12,18 +12,15 @@ use mir.Val.{toZ, ofZ}
 use Rattle.numbers.specs.Sum.{at}
 use Rattle.numbers.proofs.Read.{back}
 use Rattle.rows.specs.Rows.{row}
-use Rattle.predictor.specs.Schur.{Arrays, leavesOf, coefficientOf, turnedOf, innerFrom, outerFrom, schurOf}
-use Rattle.predictor.proofs.Turns.{inner-done, inner-next, outer-done, outer-leave, outer-next, outer-last}
+use Rattle.predictor.specs.Schur.{leavesOf, coefficientOf, turnedOf, innerFrom, outerFrom, schurOf}
+use Rattle.predictor.proofs.Turns.{arrays, inner-done, inner-turn, outer-done, outer-leave, outer-next, outer-last}
 use Rattle.predictor.proofs.recursion.Statement.{statement}
 use Rattle.predictor.proofs.recursion.Tie as tie
-
-abbrev both : List ℤ → List ℤ → Arrays
-both p k = record { P = p; K = k }
 
 abbrev Inv-loop : tie.InvT-loop
 Inv-loop order k₀ p₀ v n a b c m₀ n-end m-end k p m =
     (1 ≤ m) × (m ≤ order + 1 - n) × (length p ≡ 9) × (length k ≡ 9)
-    × (innerFrom order (toZ w16 c) (order + 1 - n - m) m (both p k) ≡ innerFrom order (toZ w16 c) (order - n) 1 (both p₀ k₀))
+    × (innerFrom order (toZ w16 c) (order + 1 - n - m) m (arrays order p k) ≡ innerFrom order (toZ w16 c) (order - n) 1 (arrays order p₀ k₀))
 
 abbrev μ-loop : tie.MeasureT-loop
 μ-loop order k₀ p₀ v n a b c m₀ n-end m-end k p m = order + 1 - n - m
@@ -31,18 +28,15 @@ abbrev μ-loop : tie.MeasureT-loop
 abbrev Inv-outer : tie.InvT-outer
 Inv-outer order k₀ p₀ v₀ n₀ n-end k p v n =
     (1 ≤ n) × (n ≤ order + 1) × (length p ≡ 9) × (length k ≡ 9) × (length v ≡ 9)
-    × (outerFrom order (order + 1 - n) n (both p k) v ≡ outerFrom order order 1 (both p₀ k₀) v₀)
+    × (outerFrom order (order + 1 - n) n (arrays order p k) v ≡ outerFrom order order 1 (arrays order p₀ k₀) v₀)
 
 abbrev μ-outer : tie.MeasureT-outer
 μ-outer order k₀ p₀ v₀ n₀ n-end k p v n = order + 1 - n
 
 -- where the loop begins is where the definition does
-start-is : (c : tie.After-mirrored Inv-loop μ-loop Inv-outer μ-outer)
-    → outerFrom (c .before .args .order) (c .before .args .order) 1 (both (c .before .args .sacf) (c .mirrored .result)) (replicate 9 (pos 0)) ≡ schurOf (c .before .args .order) (c .before .args .sacf)
+start-is : (N : ℕ) (sacf : List ℤ) → outerFrom N N 1 (arrays N sacf sacf) (replicate 9 (pos 0)) ≡ schurOf N sacf
 unfolding schurOf row
-start-is c =
-    let a = c .before .args in
-    ap (λ (k : List ℤ). outerFrom (a .order) (a .order) 1 (both (a .sacf) k) (replicate 9 (pos 0))) (c .mirrored .ensures)
+start-is N sacf = refl
 
 -- a turn of the outer loop, from its head
 abbrev Turn : Type 0
@@ -87,7 +81,7 @@ module _ (c : tie.After-turned2 Inv-loop μ-loop Inv-outer μ-outer) where
   x = at (inner .loop .p) (inner .loop .m + 1)
 
   abbrev y : ℤ
-  y = at (inner .loop .k) (inner .before .before .before .before .before .before .before .before .before .before .before .args .order + 1 - inner .loop .m)
+  y = at (inner .loop .k) (inner .loop .m)
 
   turned2-is : toZ w16 (ofZ w16 (c .turned2 .result)) ≡ turnedOf x y (v (inner .before))
   turned2-is =
@@ -100,15 +94,12 @@ module _ (c : tie.After-turned3 Inv-loop μ-loop Inv-outer μ-outer) where
       back w16 (c .turned3 .ok)
       ∙ (c .turned3 .ensures ∙ ap₂ (λ (a b : ℤ). turnedOf a b (v (inner (c .before) .before))) (back w16 (c .before .before .y .given)) (back w16 (c .before .before .before .x .given)))
 
-mirrored-requires : tie.Need-mirrored-requires Inv-loop μ-loop Inv-outer μ-outer
-mirrored-requires c κs = search needs
-
 add-n-end : tie.Need-add-n-end Inv-loop μ-loop Inv-outer μ-outer
 add-n-end c = search needs
 
 outer-holds : tie.Need-outer-holds Inv-loop μ-loop Inv-outer μ-outer
 outer-holds c =
-    let a = c .before .args in
+    let a = c .args in
     let e : a .order + 1 - 1 ≡ a .order = omega arith in
     (omega arith, omega arith, search needs, search needs, search needs, rw e)
 
@@ -145,7 +136,7 @@ sub-m-end c = search needs
 loop-holds : tie.Need-loop-holds Inv-loop μ-loop Inv-outer μ-outer
 loop-holds c =
     let o = head c in
-    let N = o .before .before .args .order in
+    let N = o .before .args .order in
     let e : N + 1 - o .outer .n - 1 ≡ N - o .outer .n = omega arith in
     (omega arith, omega arith, simp length-set (o .outer .inv .2), o .outer .inv .3, rw e)
 
@@ -157,12 +148,6 @@ mul-x c = search needs
 
 array-copy-out-x : tie.Need-array-copy-out-x Inv-loop μ-loop Inv-outer μ-outer
 array-copy-out-x c = search needs
-
-add-y : tie.Need-add-y Inv-loop μ-loop Inv-outer μ-outer
-add-y c = search needs
-
-sub-y : tie.Need-sub-y Inv-loop μ-loop Inv-outer μ-outer
-sub-y c = search needs
 
 mul-y : tie.Need-mul-y Inv-loop μ-loop Inv-outer μ-outer
 mul-y c = search needs
@@ -182,12 +167,6 @@ array-set-from-p-2 c = search needs
 turned-requires-3 : tie.Need-turned-requires-3 Inv-loop μ-loop Inv-outer μ-outer
 turned-requires-3 c κs = search needs
 
-add-k : tie.Need-add-k Inv-loop μ-loop Inv-outer μ-outer
-add-k c = search needs
-
-sub-k : tie.Need-sub-k Inv-loop μ-loop Inv-outer μ-outer
-sub-k c = search needs
-
 mul-k : tie.Need-mul-k Inv-loop μ-loop Inv-outer μ-outer
 mul-k c = search needs
 
@@ -205,13 +184,13 @@ loop-again c =
     let t = inner (c .before) in
     let m = t .loop .m in
     let o = head (t .before) in
-    let N = o .before .before .args .order in
+    let N = o .before .args .order in
     let e : N + 1 - o .outer .n - m ≡ suc (N + 1 - o .outer .n - (m + 1)) = omega arith in (
       omega arith,
       omega arith,
       simp length-set (t .loop .inv .2),
       simp length-set (t .loop .inv .3),
-      rw (turned2-is (c .before), turned3-is c) (sym (inner-next N _ _ m (both (t .loop .p) (t .loop .k)) _ e) ∙ t .loop .inv .4),
+      rw (turned2-is (c .before), turned3-is c) (sym (inner-turn N m (t .loop .k) (t .loop .inv .0) (omega arith) (o .before .pre) (t .loop .inv .3) _ _ _ (t .loop .p) e) ∙ t .loop .inv .4),
     )
 
 add-n : tie.Need-add-n Inv-loop μ-loop Inv-outer μ-outer
@@ -224,43 +203,43 @@ outer-again : tie.Need-outer-again Inv-loop μ-loop Inv-outer μ-outer
 outer-again c =
     let t = c .before in
     let o = head (t .before) in
-    let N = o .before .before .args .order in
+    let N = o .before .args .order in
     let n = o .outer .n in
     let w = t .before .before .before in
     let z : N + 1 - n - t .loop .m ≡ 0 = omega arith in
     let e : N + 1 - n ≡ suc (N + 1 - (n + 1)) = omega arith in
-    let b = rw (turned-is (t .before), coefficient-is w) at (sym (inner-done N _ _ _ (both (t .loop .p) (t .loop .k)) z) ∙ t .loop .inv .4) in (
+    let b = rw (turned-is (t .before), coefficient-is w) at (sym (inner-done N _ _ _ (arrays N (t .loop .p) (t .loop .k)) z) ∙ t .loop .inv .4) in (
       omega arith,
       omega arith,
       t .loop .inv .2,
       t .loop .inv .3,
       simp length-set (o .outer .inv .4),
       rw (coefficient-is w)
-          (sym (outer-next N _ n (both (o .outer .p) (o .outer .k)) (o .outer .v) _ _ e (sym (leaves-is (w .before .before)) ∙ w .before .if1 .left) b) ∙ o .outer .inv .5),
+          (sym (outer-next N _ n (arrays N (o .outer .p) (o .outer .k)) (o .outer .v) _ _ e (sym (leaves-is (w .before .before)) ∙ w .before .if1 .left) b) ∙ o .outer .inv .5),
     )
 
 returns : tie.Need-returns Inv-loop μ-loop Inv-outer μ-outer
 returns c =
     let o = c .before in
-    let N = o .before .before .args .order in
+    let N = o .before .args .order in
     let e : N + 1 - o .outer .n ≡ 0 = omega arith in
-    sym (outer-done N _ _ (both (o .outer .p) (o .outer .k)) (o .outer .v) e) ∙ (o .outer .inv .5 ∙ start-is (o .before))
+    sym (outer-done N _ _ (arrays N (o .outer .p) (o .outer .k)) (o .outer .v) e) ∙ (o .outer .inv .5 ∙ start-is N (o .before .args .sacf))
 
 returns-2 : tie.Need-returns-2 Inv-loop μ-loop Inv-outer μ-outer
 returns-2 c =
     let o = c .before .before .before .before .before in
-    let N = o .before .before .args .order in
+    let N = o .before .args .order in
     let e : N + 1 - o .outer .n ≡ suc (N - o .outer .n) = omega arith in
-    sym (outer-leave N _ _ (both (o .outer .p) (o .outer .k)) (o .outer .v) _ e (sym (leaves-is (c .before)) ∙ c .if1 .taken)) ∙ (o .outer .inv .5 ∙ start-is (o .before))
+    sym (outer-leave N _ _ (arrays N (o .outer .p) (o .outer .k)) (o .outer .v) _ e (sym (leaves-is (c .before)) ∙ c .if1 .taken)) ∙ (o .outer .inv .5 ∙ start-is N (o .before .args .sacf))
 
 returns-3 : tie.Need-returns-3 Inv-loop μ-loop Inv-outer μ-outer
 returns-3 c =
     let o = c .before .before .before .before .before .before .before in
-    let N = o .before .before .args .order in
+    let N = o .before .args .order in
     let w = c .before in
     let e : N + 1 - o .outer .n ≡ 1 = omega arith in
     rw (coefficient-is w)
-    (sym (outer-last N _ _ (both (o .outer .p) (o .outer .k)) (o .outer .v) e (sym (leaves-is (w .before .before)) ∙ w .before .if1 .left)) ∙ (o .outer .inv .5 ∙ start-is (o .before)))
+    (sym (outer-last N _ _ (arrays N (o .outer .p) (o .outer .k)) (o .outer .v) e (sym (leaves-is (w .before .before)) ∙ w .before .if1 .left)) ∙ (o .outer .inv .5 ∙ start-is N (o .before .args .sacf)))
 
 pub recursion-spec : {M : Type 1} → statement M
 recursion-spec =
@@ -270,7 +249,6 @@ recursion-spec =
     μ-loop
     Inv-outer
     μ-outer
-    mirrored-requires
     add-n-end
     outer-holds
     array-copy-out-a
@@ -287,16 +265,12 @@ recursion-spec =
     add-x
     mul-x
     array-copy-out-x
-    add-y
-    sub-y
     mul-y
     array-copy-out-y
     turned-requires-2
     mul-p
     array-set-from-p-2
     turned-requires-3
-    add-k
-    sub-k
     mul-k
     array-set-from-k
     add-m
