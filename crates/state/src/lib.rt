@@ -57,20 +57,14 @@ impl State {
 pub fn within(lo: i32, hi: i32, z: i32) -> bool
     ensures { λ r. ⌜ r ≡ valid.within lo hi z ⌝ }
 {
-    if lo <= z {
-        return z <= hi;
-    }
-    false
+    (lo <= z) & (z <= hi)
 }
 
 // The same of a 16-bit number.
 pub fn short_within(lo: i16, hi: i16, z: i16) -> bool
     ensures { λ r. ⌜ r ≡ valid.within lo hi z ⌝ }
 {
-    if lo <= z {
-        return z <= hi;
-    }
-    false
+    (lo <= z) & (z <= hi)
 }
 
 // Whether a pointer names a frame of its history.
@@ -83,16 +77,15 @@ fn pointer_ok(last: usize, pt: usize) -> bool
     false
 }
 
-// Whether each entry of the three frames is in its range.
+// Whether each entry of the three frames is in its range. The loop never leaves, for speed: it is done many entries at a time.
 fn sacf_within(sacf: [i32; 27]) -> bool
     ensures { λ r. ⌜ r ≡ valid.sacfWithin sacf ⌝ }
 {
+    let mut ok = true;
     for i in 0..27 {
-        if !within(-536870912, 536870911, sacf[i]) {
-            return false;
-        }
+        ok = ok & within(-536870912, 536870911, sacf[i]);
     }
-    true
+    ok
 }
 
 // Whether the three frames are valid.

@@ -1,4 +1,5 @@
 -- `state::short_within` tests both ends of a range. Assumes nothing.
+use mathlib.Core.Path.{refl}
 use Rattle.numbers.proofs.Read.{zreads}
 use Rattle.state.specs.Valid.{within}
 use Rattle.state.proofs.short_within.Statement.{statement}
@@ -7,19 +8,10 @@ use Rattle.state.proofs.short_within.Tie as tie
 returns : tie.Need-returns
 unfolding within
 returns c =
-    let f = c .before .fits .lo in
-    let g = c .before .fits .hi in
-    let h = c .before .fits .z in
-    let t = simp zreads at (c .if1 .taken) in
-    simp zreads (rw t)
-
-returns-2 : tie.Need-returns-2
-unfolding within
-returns-2 c =
-    let f = c .before .fits .lo in
-    let h = c .before .fits .z in
-    let t = simp zreads at (c .if1 .left) in
-    rw t
+    let f = c .fits .lo in
+    let g = c .fits .hi in
+    let h = c .fits .z in
+    simp zreads refl
 
 pub short-within-spec : {M : Type 1} → statement M
-short-within-spec = tie.close (tie.spec returns returns-2)
+short-within-spec = tie.close (tie.spec returns)
