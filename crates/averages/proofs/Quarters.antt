@@ -1,36 +1,30 @@
--- Quarters: numbers of -2^29..2^29-1, of which four add up without a clip. What the test of one says, and the test of the four that are added at
--- one index, index by index. Assumes nothing.
-use mathlib.Core.Path.{_≡_, sym, ap, _∙_, subst}
-use mathlib.Core.Bool.{Bool, true, _&&_}
+-- Quarters: what the test of one says, and that the four which are added at one index need no clip. Assumes nothing.
+use mathlib.Core.Path.{_≡_, ap, _∙_}
+use mathlib.Core.Bool.{true}
 use mathlib.Core.List.{List}
 use Prim.Native.Nat.{ℕ, _+_, _<_}
 use native.Mathlib.Omega.{arith}
-use lib.Dec.{ltb}
-use borrow.Author.Tests.{ltb-true, ltb-false}
 use lib.IntN.{ℤ, pos, negsuc, _+ℤ_}
-use lib.Signed.{leZ, _≤ℤ_}
+use lib.Signed.{_≤ℤ_}
+use lib.ListN.{length}
 use mir.Syntax.{w32}
 use mir.Val.{SFits}
 use Rattle.numbers.specs.Sum.{at}
 use Rattle.numbers.proofs.Parts.{zarith, plus}
 use Rattle.operations.specs.Operations.{L-add}
 use Rattle.operations.proofs.Laws.{L-add-exact}
-use Rattle.rows.proofs.Choice.{and-left, and-right, either}
+use Rattle.rows.specs.Rows.{all}
+use Rattle.rows.proofs.Choice.{within-ends}
+use Rattle.rows.proofs.All.{all-at}
 use Rattle.averages.specs.Averages.{L-av0Of}
+use Rattle.averages.specs.Quarters.{quarter}
 
--- -2^29..2^29-1: a number of 32 bits, two places down
 abbrev pub Quarter : ℤ → Type 0
 Quarter z = (negsuc 536870911 ≤ℤ z) × (z ≤ℤ pos 536870911)
 
--- its test
-abbrev pub quarterOf : ℤ → Bool
-quarterOf z = leZ (negsuc 536870911) z && leZ z (pos 536870911)
-
-quarter-in : (z : ℤ) → quarterOf z ≡ true → Quarter z
-quarter-in z t =
-    let a = and-left (leZ (negsuc 536870911) z) (leZ z (pos 536870911)) t in
-    let b = and-right (leZ (negsuc 536870911) z) (leZ z (pos 536870911)) t in
-    (omega zarith, omega zarith)
+quarter-at : (l : List ℤ) → all quarter l ≡ true → (k : ℕ) → k < length l → Quarter (at l k)
+unfolding quarter
+quarter-at l e k h = within-ends (negsuc 536870911) (pos 536870911) (at l k) (all-at quarter l k (pos 0) e h)
 
 -- ---- the four numbers that are added at the index i
 pub record Four (h f : List ℤ) (i : ℕ) : Type 0 where
@@ -63,19 +57,12 @@ module _ (h f : List ℤ) (i : ℕ) (q : Four h f i) where
       ∙ ap (L-add (at h (i + 18))) (L-add-exact (at h (i + 9)) two three-fits)
       ∙ L-add-exact (at h (i + 18)) three four-fits
 
--- ---- one index more, with what the tests of its four numbers gave
-module _ (h f : List ℤ) (i : ℕ) (t a b c d : Bool) (ea : a ≡ quarterOf (at h i)) (eb : b ≡ quarterOf (at h (i + 9))) (ec : c ≡ quarterOf (at h (i + 18))) (ed : d ≡ quarterOf (at f i)) where
-  pub four-more : (t ≡ true → (k : ℕ) → k < i → Four h f k) → ((((t && a) && b) && c) && d) ≡ true → (k : ℕ) → k < i + 1 → Four h f k
-  four-more old e k l =
-      let e₃ = and-left (((t && a) && b) && c) d e in
-      let e₂ = and-left ((t && a) && b) c e₃ in
-      let e₁ = and-left (t && a) b e₂ in
-      let here : Four h f i =
-      record {
-        first = quarter-in (at h i) (sym ea ∙ and-right t a e₁);
-        second = quarter-in (at h (i + 9)) (sym eb ∙ and-right (t && a) b e₂);
-        third = quarter-in (at h (i + 18)) (sym ec ∙ and-right ((t && a) && b) c e₃);
-        new = quarter-in (at f i) (sym ed ∙ and-right (((t && a) && b) && c) d e);
-      } in
-      either (Four h f k) (ltb k i) (λ u. old (and-left t a e₁) k (ltb-true k i u))
-      (λ u. let m : i ≡ k = omega (arith, ltb-false k i u) in subst (Four h f) m here)
+-- ---- of three frames and one more, all quarters
+pub four-at : (h f : List ℤ) → length h ≡ 27 → length f ≡ 9 → all quarter h ≡ true → all quarter f ≡ true → (i : ℕ) → i < 9 → Four h f i
+four-at h f n m s t i l =
+    record {
+      first = quarter-at h s i (omega (arith, n));
+      second = quarter-at h s (i + 9) (omega (arith, n));
+      third = quarter-at h s (i + 18) (omega (arith, n));
+      new = quarter-at f t i (omega (arith, m));
+    }

@@ -1,15 +1,15 @@
 // Clause 6.2: the average over four frames, the one of four frames before, and the two histories that they come from.
-ghost use mathlib.Core.Bool.{_&&_};
+ghost use mathlib.Core.Bool.{true};
 ghost use mathlib.Core.Path.{_≡_};
 ghost use Prim.Native.Nat.{_≤_};
-ghost use lib.IntN.{pos, negsuc};
-ghost use lib.Signed.{leZ};
-ghost use Rattle.rows.specs.Rows.{row};
+ghost use Rattle.rows.specs.Rows.{row, all};
 ghost use Rattle.averages.specs.Averages as clause;
+ghost use Rattle.averages.specs.Quarters.{quarter};
 use operations::l_add;
 use operations::l_shr;
 use operations::shl;
 use operations::sub;
+use rows::all_within;
 
 const LAST_SACF: usize = 18;
 
@@ -66,36 +66,44 @@ fn av0_at(sacf: [i32; 27], frame: [i32; 9], i: usize) -> i32
     l_add(sacf[i + 18], l_add(sacf[i + 9], l_add(sacf[i], frame[i])))
 }
 
-// Whether a number is one of -2^29..2^29-1, of which four add up without a clip.
-fn quarter(z: i32) -> bool
-    ensures { λ r. ⌜ r ≡ (leZ (negsuc 536870911) z && leZ z (pos 536870911)) ⌝ }
+// Whether each number of a row is a quarter.
+fn of_quarters(a: &[i32]) -> bool
+    ensures { λ r. ⌜ r ≡ all quarter (now (a .entry)) ⌝ }
 {
-    (z >= -536870912) & (z <= 536870911)
+    all_within(-536870912, 536870911, a)
 }
 
-// The sum over four frames. For speed, one test says whether all are quarters, as in a valid state: then no sum needs its clip.
-fn av0(sacf: [i32; 27], frame: [i32; 9]) -> [i32; 9]
+// The sum over four frames of quarters, which needs no clip.
+fn plain_av0(sacf: [i32; 27], frame: [i32; 9]) -> [i32; 9]
+    requires { ⌜ (all quarter sacf ≡ true) × (all quarter frame ≡ true) ⌝ }
     ensures { λ r. ⌜ r ≡ row 9 (clause.L-av0Of sacf frame) ⌝ }
 {
-    let mut quarters = true;
-    for i in 0..9 {
-        quarters = quarters
-            & quarter(sacf[i])
-            & quarter(sacf[i + 9])
-            & quarter(sacf[i + 18])
-            & quarter(frame[i]);
-    }
     let mut out = [0i32; 9];
-    if quarters {
-        for i in 0..9 {
-            out[i] = sacf[i + 18] + (sacf[i + 9] + (sacf[i] + frame[i]));
-        }
-        return out;
+    for i in 0..9 {
+        out[i] = sacf[i + 18] + (sacf[i + 9] + (sacf[i] + frame[i]));
     }
+    out
+}
+
+// The sum over any four frames, clipped at each step.
+fn clipped_av0(sacf: [i32; 27], frame: [i32; 9]) -> [i32; 9]
+    ensures { λ r. ⌜ r ≡ row 9 (clause.L-av0Of sacf frame) ⌝ }
+{
+    let mut out = [0i32; 9];
     for i in 0..9 {
         out[i] = av0_at(sacf, frame, i);
     }
     out
+}
+
+// The sum over four frames. For speed, one test says whether all are quarters, as in a valid state.
+fn av0(sacf: [i32; 27], frame: [i32; 9]) -> [i32; 9]
+    ensures { λ r. ⌜ r ≡ row 9 (clause.L-av0Of sacf frame) ⌝ }
+{
+    if of_quarters(&sacf[0..27]) & of_quarters(&frame[0..9]) {
+        return plain_av0(sacf, frame);
+    }
+    clipped_av0(sacf, frame)
 }
 
 // The sum of four frames before.

@@ -11,10 +11,11 @@ use mir.Syntax.{w16}
 use mir.Val.{SFits}
 use Rattle.numbers.specs.Sum.{at}
 use Rattle.numbers.proofs.Parts.{zarith, of}
+use Rattle.rows.specs.Choice.{within}
 use Rattle.rows.specs.Rows.{row}
 use Rattle.rows.proofs.Choice.{and-left, and-right}
 use Rattle.rows.proofs.All.{all-at}
-use Rattle.state.specs.Valid.{within, Between}
+use Rattle.state.specs.Valid.{Between}
 use Rattle.state.proofs.Facts.{between}
 use Rattle.card.specs.Run.{part, shortsOf, narrowOf}
 

@@ -14,10 +14,11 @@ use mir.Syntax.{w16}
 use mir.Val.{SFits}
 use Rattle.numbers.specs.Sum.{at}
 use Rattle.numbers.proofs.Parts.{zarith, of}
+use Rattle.rows.specs.Choice.{within}
 use Rattle.rows.specs.Rows.{row, all}
 use Rattle.rows.proofs.Choice.{either, both, and-left, and-right}
 use Rattle.state.specs.declared.State.{State}
-use Rattle.state.specs.Valid.{within, validOf, resetOf, Between, Valid, Shaped}
+use Rattle.state.specs.Valid.{validOf, resetOf, Between, Valid, Shaped}
 use Rattle.state.proofs.Facts.{valid, between-back}
 use Rattle.detector.specs.Refusal.{refusalOf}
 use Rattle.detector.specs.Step.{stepOf}

@@ -7,12 +7,12 @@ use lib.Dec.{eqb}
 use lib.IntN.{ℤ, natAbs, pos, negℤ}
 use lib.ListN.{length, take, drop}
 use Rattle.numbers.specs.Sum.{at}
-use Rattle.rows.specs.Choice.{IF_THEN_ELSE_}
+use Rattle.rows.specs.Choice.{IF_THEN_ELSE_, within}
 use Rattle.rows.specs.Rows.{all}
 use Rattle.pairs.specs.declared.Pair.{Pair}
 use Rattle.pairs.specs.Pairs.{pair}
 use Rattle.state.specs.declared.State.{State}
-use Rattle.state.specs.Valid.{within, resetOf}
+use Rattle.state.specs.Valid.{resetOf}
 use Rattle.detector.specs.declared.Answer.{Answer}
 use Rattle.detector.specs.Step.{stepOf}
 

@@ -12,8 +12,8 @@ use detector::step;
 use lines::read;
 use lines::write;
 use pairs::Pair;
+use rows::within;
 use state::State;
-use state::within;
 
 // The numbers of a state, and of an answer. Which stands where is in specs/Run.antt.
 const RUN: usize = 84;

@@ -4,7 +4,7 @@ use mathlib.Core.Path.{_≡_, refl, sym, ap, _∙_, subst}
 use mathlib.Core.Bool.{false, _&&_}
 use mathlib.Core.List.{List}
 use mathlib.Core.Logic.{⊎-elim}
-use Prim.Native.Nat.{ℕ, zero, suc, _+_, _-_, _/_, _<_, _≤_}
+use Prim.Native.Nat.{ℕ, zero, suc, _+_, _/_, _≤_}
 use native.Mathlib.Omega.{arith}
 use lib.Count.{leadingZeros, leading-le}
 use lib.IntN.{ℤ, pos, negsuc, _*ℤ_}
@@ -16,10 +16,10 @@ use Rattle.numbers.specs.Clamp.{clamp}
 use Rattle.numbers.specs.Floor.{residue}
 use Rattle.numbers.specs.Wrap.{wrap}
 use Rattle.numbers.proofs.Parts.{zarith, of, sign, same, le-true, plus, minus, times}
-use Rattle.operations.specs.Operations.{add, sub, L-add, abs, short, norm, div, shiftLeft, shiftRight, _<<_, _>>_, _<<ₛ_}
+use Rattle.operations.specs.Operations.{add, sub, L-add, abs, short, norm, div, shiftLeft, shiftRight, _>>_, _<<ₛ_}
 use Rattle.operations.proofs.Laws.{left-exact, short-exact, L-add-fits}
 use Rattle.operations.proofs.Exact.{sub-parts, L-add-parts, right-parts}
-use Rattle.rows.specs.Choice.{IF_THEN_ELSE_, eqZ}
+use Rattle.rows.specs.Choice.{IF_THEN_ELSE_, eqZ, within}
 use Rattle.rows.specs.Rows.{row, all}
 use Rattle.rows.proofs.Choice.{either, both, by-yes}
 use Rattle.rows.proofs.Fill.{row-at}
@@ -43,7 +43,7 @@ use Rattle.predictor.proofs.Autocorrelation.{work-first-in, norm-is, norm-in}
 use Rattle.predictor.proofs.Bounds.{Whitening, predicted-whitening}
 use Rattle.threshold.specs.Threshold.{PTH, MARGIN}
 use Rattle.state.specs.declared.State.{State}
-use Rattle.state.specs.Valid.{within, pointerOk, sacfWithin, sacfOk, sav0Ok, weightOf, rvadOk, thvadOk, lagOk, countsOk, validOf, Between, Shaped, resetOf}
+use Rattle.state.specs.Valid.{pointerOk, sacfWithin, sacfOk, sav0Ok, weightOf, rvadOk, thvadOk, lagOk, countsOk, validOf, Between, Shaped, resetOf}
 use Rattle.detector.specs.Refusal.{lengthsOk, scaleOk, acfOk, lagsOk, frameRefusalOf, refusalOf}
 use Rattle.detector.proofs.Keeps.{Numbers, accepted, kind, filter-ok, incoming, frames-was, frames-at-was, sums-was, sums-at-was}
 use Rattle.detector.specs.declared.Answer.{Answer}

@@ -1,7 +1,7 @@
 -- Only one answer satisfies a promise that says `≡` of it, and no idle program meets the promise of `step` (specs/Idle.antt). Each theorem is the
 -- frame computed by the checker; below it stands a program of its class. Assumes nothing.
 use mathlib.Core.Path.{_≡_, refl, sym, ap, ap₂, _∙_}
-use mathlib.Core.Bool.{Bool, true, false, true≢false, false≢true}
+use mathlib.Core.Bool.{Bool, true≢false, false≢true}
 use mathlib.Core.List.{List}
 use Prim.Native.Nat.{ℕ, zero, suc, _^_, _<_}
 use native.Mathlib.Omega.{arith}
@@ -17,7 +17,7 @@ use Rattle.numbers.specs.Clamp.{clamp}
 use Rattle.numbers.specs.Floor.{residue}
 use Rattle.numbers.specs.Wrap.{wrap}
 use Rattle.operations.specs.Operations.{add, sub, L-add, L-mult, shiftLeft, shiftRight, norm}
-use Rattle.rows.specs.Choice.{IF_THEN_ELSE_, eqZ}
+use Rattle.rows.specs.Choice.{IF_THEN_ELSE_, eqZ, within}
 use Rattle.rows.specs.Rows.{row, all, L-sum}
 use Rattle.pairs.specs.Pairs.{greaterOf}
 use Rattle.energy.specs.Energy.{sacfOf, acf0Of, filterSumOf, positive, pvadOf, energyOf}
@@ -27,7 +27,7 @@ use Rattle.threshold.specs.Threshold.{PLEV, adaptOf}
 use Rattle.hangover.specs.Hangover.{burstOf, runDownOf, startedOf, hangoverOf}
 use Rattle.lags.specs.Lags.{smallagOf, countedOf, onceOf, lagcountOf}
 use Rattle.state.specs.declared.State.{State}
-use Rattle.state.specs.Valid.{within, pointerOk, sacfWithin, sacfOk, sav0Ok, weightOf, rvadOk, thvadOk, lagOk, countsOk, validOf, resetOf}
+use Rattle.state.specs.Valid.{pointerOk, sacfWithin, sacfOk, sav0Ok, weightOf, rvadOk, thvadOk, lagOk, countsOk, validOf, resetOf}
 use Rattle.detector.specs.declared.Answer.{Answer}
 use Rattle.detector.specs.Refusal.{lengthsOk, scaleOk, acfOk, lagsOk, frameRefusalOf, refusalOf}
 use Rattle.detector.specs.Step.{spectralOf, movedOf, acceptedOf, refusedOf, stepOf}

@@ -10,10 +10,10 @@ use lib.Dec.{eqb}
 use borrow.Author.Tests.{eq-eqb, eqb-false}
 use lib.IntN.{ℤ, pos}
 use lib.ListN.{length, replicate}
-use Rattle.rows.specs.Choice.{IF_THEN_ELSE_}
+use Rattle.rows.specs.Choice.{IF_THEN_ELSE_, within}
 use Rattle.rows.specs.Rows.{all}
 use Rattle.rows.proofs.Choice.{by-test, by-yes}
-use Rattle.state.specs.Valid.{within, lagOk}
+use Rattle.state.specs.Valid.{lagOk}
 use Rattle.detector.specs.Refusal.{lengthsOk, scaleOk, acfOk, lagsOk, frameRefusalOf}
 use Rattle.detector.proofs.Keeps.{Numbers}
 use Rattle.lines.specs.Line.{Frame, frameOf, formedOf}

@@ -16,7 +16,7 @@ use Rattle.numbers.specs.Wrap.{wrap}
 use Rattle.operations.specs.Operations.{add, sub, L-add, L-mult, shiftLeft, shiftRight, norm}
 use Rattle.operations.specs.Worked as operations
 use Rattle.operations.specs.Worked.{Row, Holds, _is_}
-use Rattle.rows.specs.Choice.{IF_THEN_ELSE_, eqZ}
+use Rattle.rows.specs.Choice.{IF_THEN_ELSE_, eqZ, within}
 use Rattle.rows.specs.Rows.{row, all, L-sum}
 use Rattle.pairs.specs.declared.Pair.{Pair}
 use Rattle.pairs.specs.Pairs.{pair}
@@ -24,7 +24,7 @@ use Rattle.energy.specs.Energy.{sacfOf, acf0Of, filterSumOf, positive, pvadOf, 
 use Rattle.hangover.specs.Hangover.{burstOf, runDownOf, startedOf, hangoverOf}
 use Rattle.lags.specs.Lags.{smallagOf, countedOf}
 use Rattle.lags.specs.Worked as lags
-use Rattle.state.specs.Valid.{within, pointerOk, sacfWithin, sacfOk, sav0Ok, weightOf, rvadOk, thvadOk, lagOk, countsOk, validOf, resetOf}
+use Rattle.state.specs.Valid.{pointerOk, sacfWithin, sacfOk, sav0Ok, weightOf, rvadOk, thvadOk, lagOk, countsOk, validOf, resetOf}
 use Rattle.detector.specs.Refusal.{lengthsOk, scaleOk, acfOk, lagsOk, frameRefusalOf, refusalOf}
 use Rattle.detector.specs.Step.{acceptedOf, refusedOf, stepOf}
 use Rattle.demands.specs.Distance.{LOf, aOf, pOf}

@@ -11,14 +11,14 @@ use Rattle.numbers.specs.Clamp.{clamp}
 use Rattle.numbers.specs.Floor.{residue}
 use Rattle.numbers.specs.Wrap.{wrap}
 use Rattle.operations.specs.Operations.{add, sub, L-add, L-mult, shiftLeft, shiftRight, norm}
-use Rattle.rows.specs.Choice.{IF_THEN_ELSE_, eqZ}
+use Rattle.rows.specs.Choice.{IF_THEN_ELSE_, eqZ, within}
 use Rattle.rows.specs.Rows.{row, all, L-sum}
 use Rattle.pairs.specs.Pairs.{greaterOf}
 use Rattle.energy.specs.Energy.{sacfOf, acf0Of, filterSumOf, positive, pvadOf, energyOf}
 use Rattle.energy.specs.Exact.{exactOf}
 use Rattle.threshold.specs.Threshold.{adaptOf}
 use Rattle.hangover.specs.Hangover.{burstOf, runDownOf, startedOf, hangoverOf}
-use Rattle.state.specs.Valid.{within, pointerOk, sacfWithin, sacfOk, sav0Ok, weightOf, rvadOk, thvadOk, lagOk, countsOk, validOf, resetOf}
+use Rattle.state.specs.Valid.{pointerOk, sacfWithin, sacfOk, sav0Ok, weightOf, rvadOk, thvadOk, lagOk, countsOk, validOf, resetOf}
 use Rattle.detector.specs.declared.Answer.{Answer}
 use Rattle.detector.specs.Refusal.{lengthsOk, scaleOk, acfOk, lagsOk, frameRefusalOf, refusalOf}
 use Rattle.detector.specs.Step.{acceptedOf, stepOf}

@@ -18,7 +18,7 @@ use Rattle.numbers.proofs.Parts.{zarith, of, sign, le-yes}
 use Rattle.rows.specs.Rows.{all}
 use Rattle.rows.proofs.Choice.{and-left, and-right, either, by-test, eqZ-is, eqZ-yes}
 use Rattle.rows.proofs.All.{all-at}
-use Rattle.rows.specs.Choice.{eqZ}
+use Rattle.rows.specs.Choice.{eqZ, within}
 use Rattle.pairs.specs.Pairs.{greaterOf}
 use Rattle.energy.specs.Energy.{energyOf}
 use Rattle.energy.specs.declared.Energies.{Energies}
@@ -34,7 +34,7 @@ use Rattle.threshold.proofs.Range.{Sound, adapt-keeps, adapt-filter}
 use Rattle.hangover.specs.Hangover.{hangoverOf}
 use Rattle.hangover.proofs.Kept.{Counts, hangover-keeps}
 use Rattle.state.specs.declared.State.{State}
-use Rattle.state.specs.Valid.{validOf, weightOf, lagOk, within, Between, Valid, Shaped}
+use Rattle.state.specs.Valid.{validOf, weightOf, lagOk, Between, Valid, Shaped}
 use Rattle.state.proofs.Facts.{valid, valid-back, between, le-fact, lag}
 use Rattle.detector.specs.declared.Middle.{Middle}
 use Rattle.detector.specs.declared.Answer.{Answer}

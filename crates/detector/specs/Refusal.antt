@@ -7,10 +7,10 @@ use lib.IntN.{ℤ, natAbs, pos}
 use lib.ListN.{length}
 use lib.Signed.{leZ}
 use Rattle.numbers.specs.Sum.{at}
-use Rattle.rows.specs.Choice.{IF_THEN_ELSE_}
+use Rattle.rows.specs.Choice.{IF_THEN_ELSE_, within}
 use Rattle.rows.specs.Rows.{all}
 use Rattle.state.specs.declared.State.{State}
-use Rattle.state.specs.Valid.{within, lagOk, validOf}
+use Rattle.state.specs.Valid.{lagOk, validOf}
 
 -- not "a lent buffer has the wrong length (9 numbers, 4 lags)"
 unfoldable pub lengthsOk : List ℤ → List ℕ → Bool

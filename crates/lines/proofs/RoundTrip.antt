@@ -17,12 +17,12 @@ use mir.Val.{Fits, SFits, toZ, ofZ}
 use mir.Facts.{toZ-ofZ, ofZ-toZ, fits-ofZ}
 use Rattle.numbers.specs.Sum.{at}
 use Rattle.numbers.proofs.Parts.{zarith, of, sign, le-yes}
-use Rattle.rows.specs.Choice.{IF_THEN_ELSE_}
+use Rattle.rows.specs.Choice.{IF_THEN_ELSE_, within}
 use Rattle.rows.specs.Rows.{row, all}
 use Rattle.rows.proofs.All.{all-at}
 use Rattle.rows.proofs.Choice.{and-left, and-right, either}
 use Rattle.rows.proofs.Fill.{length-row}
-use Rattle.state.specs.Valid.{within, lagOk}
+use Rattle.state.specs.Valid.{lagOk}
 use Rattle.detector.specs.Refusal.{lengthsOk, scaleOk, acfOk, lagsOk, frameRefusalOf}
 use Rattle.detector.proofs.Table.{nine, four}
 use Rattle.lines.specs.Hex.{hexOf, numberOf, digitsOf, blocksOf}

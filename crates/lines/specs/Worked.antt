@@ -5,9 +5,9 @@ use mathlib.Core.List.{List, [], _∷_, _++_}
 use Prim.Native.Nat.{ℕ}
 use lib.IntN.{pos}
 use lib.ListN.{replicate}
-use Rattle.rows.specs.Choice.{IF_THEN_ELSE_}
+use Rattle.rows.specs.Choice.{IF_THEN_ELSE_, within}
 use Rattle.rows.specs.Rows.{row, all}
-use Rattle.state.specs.Valid.{within, lagOk}
+use Rattle.state.specs.Valid.{lagOk}
 use Rattle.detector.specs.Refusal.{scaleOk, acfOk, lagsOk, frameRefusalOf}
 use Rattle.lines.specs.Hex.{valueOf, hexOf, digitOf, numberFrom, numberOf, digitsOf, blocksOf}
 use Rattle.lines.specs.Line.{Frame, fieldAt, wordAt, frameOf, lineOf, formedOf}

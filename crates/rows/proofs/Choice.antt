@@ -1,11 +1,11 @@
--- A choice by its test, and the test of equality. Assumes nothing.
+-- A choice by its test, the test of equality, and the test of a range. Assumes nothing.
 use mathlib.Core.Path.{_≡_, refl, sym, subst}
 use mathlib.Core.Bool.{Bool, true, false, not, _&&_}
 use native.Mathlib.Omega.{arith}
 use lib.Dec.{T}
 use lib.IntN.{ℤ}
-use lib.Signed.{leZ}
-use Rattle.rows.specs.Choice.{IF_THEN_ELSE_, eqZ}
+use lib.Signed.{leZ, _≤ℤ_}
+use Rattle.rows.specs.Choice.{IF_THEN_ELSE_, eqZ, within}
 use Rattle.numbers.proofs.Parts.{zarith, same, le-true, le-yes}
 
 -- ---- both of two tests
@@ -59,3 +59,11 @@ eqZ-is x y h = omega (zarith, le-yes x y (and-left (leZ x y) (leZ y x) h), le-ye
 
 pub eqZ-no : {x y : ℤ} → (x ≡ y → ⊥) → eqZ x y ≡ false
 eqZ-no {x} {y} h = either (eqZ x y ≡ false) (eqZ x y) (λ t. absurd (h (eqZ-is x y t))) (λ t. t)
+
+-- ---- the test of a range
+pub within-ends : (lo hi z : ℤ) → within lo hi z ≡ true → (lo ≤ℤ z) × (z ≤ℤ hi)
+unfolding within
+within-ends lo hi z h =
+    let a = and-left (leZ lo z) (leZ z hi) h in
+    let b = and-right (leZ lo z) (leZ z hi) h in
+    (omega zarith, omega zarith)

@@ -4,13 +4,13 @@ use mathlib.Core.List.{List}
 use Prim.Native.Nat.{ℕ, _+_, _-_, _<_, _≤_, min}
 use native.Mathlib.Nat.{add-comm, zero-add}
 use native.Mathlib.Omega.{arith}
-use lib.IntN.{ℤ, pos, _*ℤ_}
+use lib.IntN.{ℤ, pos}
 use lib.ListN.{length, take, drop, length-take, length-drop}
 use lib.Seq.{getD-take, getD-drop}
-use Rattle.numbers.specs.Sum.{sum, at}
+use Rattle.numbers.specs.Sum.{at}
 use Rattle.operations.specs.Operations.{L-mult}
-use Rattle.rows.specs.Rows.{L-products, L-lagged, product-sum}
-use Rattle.rows.proofs.Sum.{L-sum-ext, sum-ext}
+use Rattle.rows.specs.Rows.{L-products, L-lagged}
+use Rattle.rows.proofs.Sum.{L-sum-ext}
 
 module _ (l : List ℤ) (i : ℕ) (nine : length l ≡ 9) (h : i ≤ 8) where
   abbrev front : List ℤ
@@ -37,7 +37,3 @@ module _ (l : List ℤ) (i : ℕ) (nine : length l ≡ 9) (h : i ≤ 8) where
   pub products-lagged : L-products (take 9 (drop 0 l)) (take (9 - i) (drop i l)) ≡ L-lagged l i
   unfolding L-products L-lagged
   products-lagged = rw (count, nine) (L-sum-ext (9 - i) _ _ (λ k u. ap₂ L-mult (front-at k u) (rear-at k u)))
-
-  pub sum-lagged : product-sum (take 9 (drop 0 l)) (take (9 - i) (drop i l)) ≡ sum (length l - i) (λ k. at l k *ℤ at l (k + i))
-  unfolding product-sum
-  sum-lagged = rw (count, nine) (sum-ext (9 - i) _ _ (λ k u. ap₂ _*ℤ_ (front-at k u) (rear-at k u)))

@@ -3,12 +3,11 @@
 use mathlib.Core.Path.{_≡_, refl, sym, ap, ap₂, _∙_, subst}
 use mathlib.Core.Bool.{true}
 use mathlib.Core.List.{List}
-use Prim.Native.Nat.{ℕ, zero, suc, _+_, _-_, _*_, _^_, _<_, _≤_, min}
+use Prim.Native.Nat.{ℕ, zero, suc, _*_, _^_, _<_, _≤_, min}
 use native.Mathlib.Omega.{arith}
 use lib.Dec.{ltb}
 use borrow.Author.Tests.{ltb-true, ltb-false}
-use lib.IntN.{ℤ, natAbs, pos, negsuc, _+ℤ_, _*ℤ_}
-use lib.Signed.{leZ}
+use lib.IntN.{ℤ, natAbs, pos, _+ℤ_, _*ℤ_}
 use lib.ListN.{length, List·getD-eq-default}
 use mir.Syntax.{w32}
 use Rattle.numbers.specs.Clamp.{clamp}
@@ -19,8 +18,8 @@ use Rattle.numbers.proofs.Magnitude.{abs-*, abs-*-le}
 use Rattle.numbers.proofs.Scale.{sum-scale}
 use Rattle.operations.specs.Operations.{L-add, L-mult}
 use Rattle.operations.proofs.Laws.{L-mult-exact}
-use Rattle.rows.specs.Rows.{all, L-sum, L-products, L-lagged, product-sum, thirteen}
-use Rattle.rows.proofs.Choice.{and-left, and-right, either}
+use Rattle.rows.specs.Rows.{all, L-sum, L-products, product-sum, thirteen}
+use Rattle.rows.proofs.Choice.{either, within-ends}
 use Rattle.rows.proofs.All.{all-at}
 use Rattle.rows.proofs.Sum.{L-sum-exact, L-sum-ext}
 
@@ -59,10 +58,7 @@ module _ (x y : ℕ → ℤ) (B : ℕ) (fits : B < 2 ^ 30) where
 -- ---- numbers of 13 bits
 thirteen-abs : (z : ℤ) → thirteen z ≡ true → natAbs z ≤ 4096
 unfolding thirteen
-thirteen-abs z e =
-    let a = and-left (leZ (negsuc 4095) z) (leZ z (pos 4095)) e in
-    let b = and-right (leZ (negsuc 4095) z) (leZ z (pos 4095)) e in
-    omega (zarith, of z, sign z)
+thirteen-abs z e = let r = within-ends _ _ z e in omega (zarith, of z, sign z, r .0, r .1)
 
 pub narrow-at : (l : List ℤ) → all thirteen l ≡ true → (k : ℕ) → natAbs (at l k) ≤ 4096
 narrow-at l e k =
@@ -81,8 +77,8 @@ narrow-products a b n e h = upto (min (length a) (length b)) (omega arith) (λ k
     upto zero l h = refl
     upto (suc n) l h = plain-last (at a) (at b) (2 ^ 27) (omega arith) n h (omega arith)
 
--- a row of 13 bits and itself, at most nine numbers
-pub narrow-lagged : (a : List ℤ) (i : ℕ) → length a ≤ 9 → all thirteen a ≡ true → L-lagged a i ≡ sum (length a - i) (λ k. at a k *ℤ at a (k + i)) *ℤ pos 2
-unfolding L-lagged
-narrow-lagged a i n e =
-    plain (at a) (λ k. at a (k + i)) (2 ^ 24) (omega arith) (length a - i) (λ k l. abs-*-le (at a k) (at a (k + i)) 4096 4096 (narrow-at a e k) (narrow-at a e (k + i))) (omega arith)
+-- two rows of 13 bits, the second of at most nine numbers
+pub narrow-both : (a b : List ℤ) → length b ≤ 9 → all thirteen a ≡ true → all thirteen b ≡ true → L-products a b ≡ product-sum a b *ℤ pos 2
+unfolding L-products product-sum
+narrow-both a b n d e =
+    plain (at a) (at b) (2 ^ 24) (omega arith) (min (length a) (length b)) (λ k l. abs-*-le (at a k) (at b k) 4096 4096 (narrow-at a d k) (narrow-at b e k)) (omega arith)

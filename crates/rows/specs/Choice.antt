@@ -1,4 +1,4 @@
--- The standard's IF .. THEN .. ELSE, and its test of equality. `ltZ` and `leZ` of the library are its < and <=. Assumes nothing.
+-- The standard's IF .. THEN .. ELSE, its test of equality, and the test of a range. `ltZ` and `leZ` of the library are its < and <=. Assumes nothing.
 use mathlib.Core.Bool.{Bool, true, false, _&&_}
 use lib.IntN.{ℤ}
 use lib.Signed.{leZ}
@@ -11,3 +11,7 @@ IF false THEN a ELSE b = b
 -- x == y
 unfoldable pub eqZ : ℤ → ℤ → Bool
 eqZ x y = leZ x y && leZ y x
+
+-- lo..hi
+unfoldable pub within : ℤ → ℤ → ℤ → Bool
+within lo hi z = leZ lo z && leZ z hi

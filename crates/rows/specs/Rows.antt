@@ -3,10 +3,10 @@ use mathlib.Core.Bool.{Bool, true, _&&_}
 use mathlib.Core.List.{List, [], _∷_, _++_}
 use Prim.Native.Nat.{ℕ, zero, suc, _+_, _-_, min}
 use lib.IntN.{ℤ, pos, negsuc, _*ℤ_}
-use lib.Signed.{leZ}
 use lib.ListN.{length, getD}
 use Rattle.numbers.specs.Sum.{sum, at}
 use Rattle.operations.specs.Operations.{L-add, L-mult}
+use Rattle.rows.specs.Choice.{within}
 
 -- f 0, f 1, .., f (n - 1)
 unfoldable pub row {ℓ} : {A : Type ℓ} → ℕ → (ℕ → A) → List A
@@ -41,4 +41,4 @@ product-sum a b = sum (min (length a) (length b)) (λ k. at a k *ℤ at b k)
 
 -- a number of 13 bits
 unfoldable pub thirteen : ℤ → Bool
-thirteen x = leZ (negsuc 4095) x && leZ x (pos 4095)
+thirteen x = within (negsuc 4095) (pos 4095) x

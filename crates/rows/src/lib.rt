@@ -6,6 +6,7 @@ ghost use Prim.Native.Nat.{ℕ, _^_, _<_, _≤_, min};
 ghost use lib.IntN.{natAbs, pos};
 ghost use lib.ListN.{length, getD};
 ghost use Rattle.numbers.specs.Sum.{at};
+ghost use Rattle.rows.specs.Choice.{within};
 ghost use Rattle.rows.specs.Rows.{row, firstOf, all, thirteen, product-sum, L-products, L-lagged};
 use operations::l_add;
 use operations::l_mult;
@@ -16,6 +17,33 @@ pub fn lesser(m: usize, n: usize) -> usize
     ensures { λ r. ⌜ r ≡ min m n ⌝ }
 {
     if m < n { m } else { n }
+}
+
+// ---- ranges
+
+// Whether z is one of lo..hi.
+pub fn within(lo: i32, hi: i32, z: i32) -> bool
+    ensures { λ r. ⌜ r ≡ within lo hi z ⌝ }
+{
+    (lo <= z) & (z <= hi)
+}
+
+// The same of a 16-bit number.
+pub fn short_within(lo: i16, hi: i16, z: i16) -> bool
+    ensures { λ r. ⌜ r ≡ within lo hi z ⌝ }
+{
+    (lo <= z) & (z <= hi)
+}
+
+// Whether each number of a row is one of lo..hi. The loop never leaves, for speed: it is done many entries at a time.
+pub fn all_within(lo: i32, hi: i32, a: &[i32]) -> bool
+    ensures { λ r. ⌜ r ≡ all (within lo hi) (now (a .entry)) ⌝ }
+{
+    let mut ok = true;
+    for k in 0..a.len() {
+        ok = ok & within(lo, hi, a[k]);
+    }
+    ok
 }
 
 // ---- lent rows, by value
@@ -59,20 +87,13 @@ pub fn four(from: &[u16]) -> [u16; 4]
 
 // ---- running sums
 
-// Whether a number has 13 bits.
-fn thirteen(x: i16) -> bool
-    ensures { λ r. ⌜ r ≡ thirteen x ⌝ }
-{
-    (x >= -4096) & (x <= 4095)
-}
-
-// Whether each number of a row has 13 bits. A loop that never leaves is done many entries at a time.
+// Whether each number of a row has 13 bits.
 fn narrow(a: &[i16]) -> bool
     ensures { λ r. ⌜ r ≡ all thirteen (now (a .entry)) ⌝ }
 {
     let mut ok = true;
     for k in 0..a.len() {
-        ok = ok & thirteen(a[k]);
+        ok = ok & short_within(-4096, 4095, a[k]);
     }
     ok
 }
@@ -116,37 +137,26 @@ pub fn products(a: &[i16], b: &[i16]) -> i32
     clipped(a, b)
 }
 
-// The sums of a row of 13 bits and itself at each lag, which no step can clip.
-fn exact_lags(a: [i16; 9]) -> [i32; 9]
-    requires { ⌜ all thirteen a ≡ true ⌝ }
-    ensures { λ r. ⌜ r ≡ row 9 (L-lagged a) ⌝ }
+// The same of a second row of at most nine entries. If `small`, both rows are of 13 bits, and then no step can clip.
+fn lag_sum(small: bool, a: &[i16], b: &[i16]) -> i32
+    requires { ⌜ (length (now b) ≤ 9) × (small ≡ true → (all thirteen (now a) ≡ true) × (all thirteen (now b) ≡ true)) ⌝ }
+    ensures { λ r. ⌜ r ≡ L-products (now (a .entry)) (now (b .entry)) ⌝ }
 {
-    let b = a;
-    let mut out = [0i32; 9];
-    for i in 0..9 {
-        out[i] = exact(&a[0..9], &b[i..9]) * 2;
+    if small {
+        return exact(a, b) * 2;
     }
-    out
+    clipped(a, b)
 }
 
-// The same of any row, clipped at each step.
-fn clipped_lags(a: [i16; 9]) -> [i32; 9]
-    ensures { λ r. ⌜ r ≡ row 9 (L-lagged a) ⌝ }
-{
-    let b = a;
-    let mut out = [0i32; 9];
-    for i in 0..9 {
-        out[i] = clipped(&a[0..9], &b[i..9]);
-    }
-    out
-}
-
-// The sums of the doubled products of a row and itself, at each lag from 0 to 8.
+// The sums of the doubled products of a row and itself, at each lag from 0 to 8. One test says whether any of them can clip.
 pub fn lagged(a: [i16; 9]) -> [i32; 9]
     ensures { λ r. ⌜ r ≡ row 9 (L-lagged a) ⌝ }
 {
-    if narrow(&a[0..9]) {
-        return exact_lags(a);
+    let small = narrow(&a[0..9]);
+    let b = a;
+    let mut out = [0i32; 9];
+    for i in 0..9 {
+        out[i] = lag_sum(small, &a[0..9], &b[i..9]);
     }
-    clipped_lags(a)
+    out
 }

@@ -10,12 +10,13 @@ use lib.ListN.{length, List·getD-eq-default}
 use lib.Signed.{leZ, _≤ℤ_}
 use Rattle.numbers.specs.Sum.{at, total}
 use Rattle.numbers.proofs.Parts.{zarith}
+use Rattle.rows.specs.Choice.{within}
 use Rattle.rows.specs.Rows.{row, all}
-use Rattle.rows.proofs.Choice.{and-left, and-right, both, either}
+use Rattle.rows.proofs.Choice.{and-left, and-right, both, either, within-ends}
 use Rattle.rows.proofs.All.{all-at, all-each}
 use Rattle.pairs.specs.declared.Pair.{Pair}
 use Rattle.state.specs.declared.State.{State}
-use Rattle.state.specs.Valid.{within, pointerOk, sacfWithin, sacfOk, sav0Ok, weightOf, rvadOk, thvadOk, lagOk, countsOk, validOf, Between, Valid, resetOf}
+use Rattle.state.specs.Valid.{pointerOk, sacfWithin, sacfOk, sav0Ok, weightOf, rvadOk, thvadOk, lagOk, countsOk, validOf, Between, Valid, resetOf}
 
 -- ---- one test and one fact
 pub le-fact : (a b : ℤ) → leZ a b ≡ true → a ≤ℤ b
@@ -25,8 +26,7 @@ pub le-back : (a b : ℤ) → a ≤ℤ b → leZ a b ≡ true
 le-back a b h = omega zarith
 
 pub between : (lo hi z : ℤ) → within lo hi z ≡ true → Between lo hi z
-unfolding within
-between lo hi z t = record { from = le-fact lo z (and-left (leZ lo z) (leZ z hi) t); to = le-fact z hi (and-right (leZ lo z) (leZ z hi) t) }
+between lo hi z t = let e = within-ends lo hi z t in record { from = e .0; to = e .1 }
 
 pub between-back : (lo hi z : ℤ) → Between lo hi z → within lo hi z ≡ true
 unfolding within

@@ -9,14 +9,11 @@ use lib.IntN.{ℤ, natAbs, pos, negℤ}
 use lib.ListN.{length}
 use lib.Signed.{leZ, _≤ℤ_}
 use Rattle.numbers.specs.Sum.{at, total}
+use Rattle.rows.specs.Choice.{within}
 use Rattle.rows.specs.Rows.{row, all}
 use Rattle.pairs.specs.declared.Pair.{Pair}
 use Rattle.pairs.specs.Pairs.{pair}
 use Rattle.state.specs.declared.State.{State}
-
--- lo..hi
-unfoldable pub within : ℤ → ℤ → ℤ → Bool
-within lo hi z = leZ lo z && leZ z hi
 
 -- "pointers are 0, 9, 18 (and 27 for the second)"
 unfoldable pub pointerOk : ℕ → ℕ → Bool

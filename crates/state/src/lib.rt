@@ -3,6 +3,8 @@ ghost use mathlib.Core.Path.{_≡_};
 ghost use Rattle.state.specs.Valid as valid;
 use operations::magnitude;
 use pairs::Pair;
+use rows::all_within;
+use rows::short_within;
 
 // The last places of the two pointers: the last of three frames, and of four sums.
 const LAST_SACF: usize = 18;
@@ -53,20 +55,6 @@ impl State {
 
 // ---- validity
 
-// Whether z is one of lo..hi.
-pub fn within(lo: i32, hi: i32, z: i32) -> bool
-    ensures { λ r. ⌜ r ≡ valid.within lo hi z ⌝ }
-{
-    (lo <= z) & (z <= hi)
-}
-
-// The same of a 16-bit number.
-pub fn short_within(lo: i16, hi: i16, z: i16) -> bool
-    ensures { λ r. ⌜ r ≡ valid.within lo hi z ⌝ }
-{
-    (lo <= z) & (z <= hi)
-}
-
 // Whether a pointer names a frame of its history.
 fn pointer_ok(last: usize, pt: usize) -> bool
     ensures { λ r. ⌜ r ≡ valid.pointerOk last pt ⌝ }
@@ -77,15 +65,11 @@ fn pointer_ok(last: usize, pt: usize) -> bool
     false
 }
 
-// Whether each entry of the three frames is in its range. The loop never leaves, for speed: it is done many entries at a time.
+// Whether each entry of the three frames is in its range.
 fn sacf_within(sacf: [i32; 27]) -> bool
     ensures { λ r. ⌜ r ≡ valid.sacfWithin sacf ⌝ }
 {
-    let mut ok = true;
-    for i in 0..27 {
-        ok = ok & within(-536870912, 536870911, sacf[i]);
-    }
-    ok
+    all_within(-536870912, 536870911, &sacf[0..27])
 }
 
 // Whether the three frames are valid.

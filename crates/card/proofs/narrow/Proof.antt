@@ -5,7 +5,7 @@ use lib.IntN.{pos}
 use mir.Syntax.{w32}
 use Rattle.numbers.specs.Sum.{at}
 use Rattle.numbers.proofs.Read.{ranged, zreads}
-use Rattle.state.specs.Valid.{within}
+use Rattle.rows.specs.Choice.{within}
 use Rattle.rows.proofs.Choice.{not-true, not-false}
 use Rattle.card.specs.Run.{narrowOf}
 use Rattle.card.proofs.narrow.Statement.{statement}

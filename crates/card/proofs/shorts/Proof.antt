@@ -9,9 +9,9 @@ use mir.Syntax.{w32}
 use Rattle.numbers.specs.Sum.{at}
 use Rattle.numbers.proofs.Read.{ranged, zreads}
 use mathlib.Core.Bool.{Bool}
+use Rattle.rows.specs.Choice.{within}
 use Rattle.rows.specs.Rows.{all}
 use Rattle.rows.proofs.All.{all-yes, all-no, all-end}
-use Rattle.state.specs.Valid.{within}
 use Rattle.rows.proofs.Choice.{not-true, not-false}
 use Rattle.card.specs.Run.{part, shortsOf}
 use Rattle.card.proofs.Parted.{part-length, part-at}

@@ -4,11 +4,12 @@ use mathlib.Core.Path.{_≡_, refl, ap, _∙_}
 use mathlib.Core.Bool.{_&&_}
 use Prim.Native.Nat.{_-_, _≤_}
 use native.Mathlib.Omega.{arith}
-use lib.IntN.{pos}
+use lib.IntN.{pos, negsuc}
 use lib.ListN.{drop}
 use mir.Syntax.{w16}
 use Rattle.numbers.specs.Sum.{at}
 use Rattle.numbers.proofs.Read.{back}
+use Rattle.rows.specs.Choice.{within}
 use Rattle.rows.specs.Rows.{all, thirteen}
 use Rattle.rows.proofs.All.{all-more, all-found}
 use Rattle.rows.proofs.narrow.Statement.{statement}
@@ -23,14 +24,14 @@ abbrev μ-loop : tie.MeasureT-loop
 loop-holds : tie.Need-loop-holds Inv-loop μ-loop
 loop-holds c = (omega arith, refl)
 
-mul-thirteen : tie.Need-mul-thirteen Inv-loop μ-loop
-mul-thirteen c = search needs
+mul-short-within : tie.Need-mul-short-within Inv-loop μ-loop
+mul-short-within c = search needs
 
-shared-slice-copy-out-thirteen : tie.Need-shared-slice-copy-out-thirteen Inv-loop μ-loop
-shared-slice-copy-out-thirteen c = search needs
+shared-slice-copy-out-short-within : tie.Need-shared-slice-copy-out-short-within Inv-loop μ-loop
+shared-slice-copy-out-short-within c = search needs
 
-thirteen-requires : tie.Need-thirteen-requires Inv-loop μ-loop
-thirteen-requires c κs = search needs
+short-within-requires : tie.Need-short-within-requires Inv-loop μ-loop
+short-within-requires c κs = search needs
 
 add-k : tie.Need-add-k Inv-loop μ-loop
 add-k c = search needs
@@ -39,9 +40,10 @@ loop-less : tie.Need-loop-less Inv-loop μ-loop
 loop-less c = search needs
 
 loop-again : tie.Need-loop-again Inv-loop μ-loop
+unfolding thirteen
 loop-again c =
     let t = c .before .before .before in
-    let e : c .thirteen .result ≡ thirteen (at (t .before .args .a .now) (t .loop .k)) = c .thirteen .ensures ∙ ap thirteen (back w16 (c .before .thirteen-arg .given)) in
+    let e : c .short-within .result ≡ thirteen (at (t .before .args .a .now) (t .loop .k)) = c .short-within .ensures ∙ ap (within (negsuc 4095) (pos 4095)) (back w16 (c .before .short-within-arg .given)) in
     (omega arith, all-more thirteen _ (t .loop .k) (pos 0) (t .loop .ok) _ (omega arith) e ∙ t .loop .inv .1)
 
 returns : tie.Need-returns Inv-loop μ-loop
@@ -54,9 +56,9 @@ narrow-spec =
     Inv-loop
     μ-loop
     loop-holds
-    mul-thirteen
-    shared-slice-copy-out-thirteen
-    thirteen-requires
+    mul-short-within
+    shared-slice-copy-out-short-within
+    short-within-requires
     add-k
     loop-less
     loop-again

@@ -9,7 +9,8 @@ use mir.Val.{SFits}
 use Rattle.numbers.specs.Sum.{at}
 use Rattle.numbers.proofs.Magnitude.{fits-abs}
 use Rattle.numbers.proofs.Read.{ranged, cast-need, zreads}
-use Rattle.state.specs.Valid.{within, rvadOk}
+use Rattle.rows.specs.Choice.{within}
+use Rattle.state.specs.Valid.{rvadOk}
 use Rattle.state.proofs.rvad_ok.Statement.{statement}
 use Rattle.state.proofs.rvad_ok.Tie as tie
 

@@ -5,7 +5,8 @@ use lib.IntN.{pos}
 use mir.Syntax.{w16}
 use mir.Val.{SFits}
 use Rattle.numbers.proofs.Read.{zreads}
-use Rattle.state.specs.Valid.{within, thvadOk}
+use Rattle.rows.specs.Choice.{within}
+use Rattle.state.specs.Valid.{thvadOk}
 use Rattle.state.proofs.thvad_ok.Statement.{statement}
 use Rattle.state.proofs.thvad_ok.Tie as tie
 
