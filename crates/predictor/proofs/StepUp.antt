@@ -7,7 +7,7 @@ use native.Mathlib.Omega.{arith}
 use lib.Dec.{eqb, ltb}
 use borrow.Author.Tests.{le-leb, lt-leb, lt-ltb, le-ltb, eqb-true, eqb-false, eq-eqb, ne-eqb, ltb-true, ltb-false}
 use lib.IntN.{ℤ, pos, _+ℤ_, _*ℤ_}
-use lib.ListN.{length, drop, set, length-append, List·getD-append}
+use lib.ListN.{length, drop, set, length-set, length-append, List·getD-append}
 use lib.Seq.{getD-append-add, getD-set-same, getD-set-other, ext-getD}
 use mir.Syntax.{w16, w32}
 use mir.Val.{SFits}
@@ -164,7 +164,7 @@ module _ (vpar : List ℤ) where
   order-start zero k h l = absurd (omega arith)
   order-start (suc p) k h l = let d : suc p - 1 ≡ p = omega arith in rw d (stays-low p k l)
 
-  pub order-turn : (m i : ℕ) → 1 ≤ m → m ≤ 8 → 1 ≤ i → i ≤ 8 → SFits w16 (at vpar m) → Formula (m - 1) m i
+  order-turn : (m i : ℕ) → 1 ≤ m → m ≤ 8 → 1 ≤ i → i ≤ 8 → SFits w16 (at vpar m) → Formula (m - 1) m i
   order-turn zero i a b h k f = absurd (omega arith)
   order-turn (suc p) i a b h k f = let d : suc p - 1 ≡ p = omega arith in rw d (formula p i b h k f)
 
@@ -182,7 +182,7 @@ module _ (vpar : List ℤ) where
 
 -- ---- one entry stored: those up to it, and those above it
 module _ (l s : List ℤ) (j : ℕ) (v : ℤ) where
-  pub upto-more : j < length l → v ≡ at s j → ((k : ℕ) → k < j → at l k ≡ at s k) → (k : ℕ) → k < j + 1 → at (set l j v) k ≡ at s k
+  upto-more : j < length l → v ≡ at s j → ((k : ℕ) → k < j → at l k ≡ at s k) → (k : ℕ) → k < j + 1 → at (set l j v) k ≡ at s k
   upto-more h e old k b =
       either (at (set l j v) k ≡ at s k) (ltb k j)
       (λ t. let u = ltb-true k j t in getD-set-other l j k v (pos 0) (λ q. omega arith) ∙ old k u)
@@ -190,5 +190,23 @@ module _ (l s : List ℤ) (j : ℕ) (v : ℤ) where
       let q : j ≡ k = omega (arith, ltb-false k j t) in
       ap (at (set l j v)) (sym q) ∙ getD-set-same l j v (pos 0) h ∙ e ∙ ap (at s) q)
 
-  pub above-less : ((k : ℕ) → j ≤ k → at l k ≡ at s k) → (k : ℕ) → j + 1 ≤ k → at (set l j v) k ≡ at s k
+  above-less : ((k : ℕ) → j ≤ k → at l k ≡ at s k) → (k : ℕ) → j + 1 ≤ k → at (set l j v) k ≡ at s k
   above-less old k b = getD-set-other l j k v (pos 0) (λ q. omega arith) ∙ old k (omega arith)
+
+-- what a loop that makes the order m keeps: the entries below i are those of the order, and the others are still those of coef
+abbrev pub Made : List ℤ → List ℤ → ℕ → ℕ → List ℤ → ℕ → Type 0
+Made vpar coef m n out i =
+    (1 ≤ i) × (i ≤ n) × (length out ≡ 17) × ((k : ℕ) → k < 8 + i → at out k ≡ at (held vpar m) k) × ((k : ℕ) → 8 + i ≤ k → at out k ≡ at coef k)
+
+pub made-more : (vpar coef : List ℤ) (m n : ℕ) (out : List ℤ) (i : ℕ) (z : ℤ) → 1 ≤ m → m < n → n ≤ 9 → coef ≡ held vpar (m - 1) → i < n → SFits w16 (at vpar m)
+    → z ≡ L-add (at coef (8 + i)) (L-mult (at vpar m) (at coef (8 + m - i) >> pos 16)) → Made vpar coef m n out i → Made vpar coef m n (set out (8 + i) z) (i + 1)
+made-more vpar coef m n out i z one low nine is more f e h =
+    let j : 8 + i + 1 ≡ 8 + (i + 1) = omega arith in
+    let q : z ≡ at (held vpar m) (8 + i) =
+    e ∙ ap (λ (l : List ℤ). L-add (at l (8 + i)) (L-mult (at vpar m) (at l (8 + m - i) >> pos 16))) is ∙ order-turn vpar m i one (omega arith) (h .0) (omega arith) f in (
+      omega arith,
+      omega arith,
+      simp length-set (h .2),
+      rw (sym j) (upto-more out (held vpar m) (8 + i) z (omega arith) q (h .3)),
+      rw (sym j) (above-less out coef (8 + i) z (h .4)),
+    )

@@ -1,34 +1,32 @@
 -- `predictor::recursion` gives the reflection coefficients. The invariants: what is left of each loop, from the arrays as they are, is what it was
 -- at its start. Assumes nothing.
-use borrow.Author.Needs.{needs}
+use borrow.Author.Needs.{needs, scaled-fits}
 use mathlib.Core.Path.{_≡_, refl, sym, ap₂, _∙_}
 use mathlib.Core.List.{List}
-use Prim.Native.Nat.{ℕ, suc, _+_, _-_, _≤_}
+use Prim.Native.Nat.{ℕ, _+_, _-_, _<_, _≤_, suc-le-suc}
 use native.Mathlib.Omega.{arith}
 use lib.IntN.{ℤ, pos}
-use lib.ListN.{length, length-set, replicate}
-use mir.Syntax.{w16}
-use mir.Val.{toZ, ofZ}
+use lib.ListN.{replicate}
+use mir.Syntax.{w16, w64}
+use mir.Val.{Fits, toZ, ofZ}
+use mir.Facts.{fits-below}
+use lib.Dec.{lit<}
 use Rattle.numbers.specs.Sum.{at}
 use Rattle.numbers.proofs.Read.{back}
 use Rattle.rows.specs.Rows.{row}
 use Rattle.predictor.specs.Schur.{leavesOf, coefficientOf, turnedOf, innerFrom, outerFrom, schurOf}
-use Rattle.predictor.proofs.Turns.{arrays, inner-done, inner-turn, outer-done, outer-leave, outer-next, outer-last}
+use Rattle.predictor.proofs.Turns.{arrays, Inner, Outer, inner-first, inner-kept, outer-first, outer-over, outer-stop, outer-full, outer-kept}
 use Rattle.predictor.proofs.recursion.Statement.{statement}
 use Rattle.predictor.proofs.recursion.Tie as tie
 
 abbrev Inv-loop : tie.InvT-loop
-Inv-loop order k₀ p₀ v n a b c m₀ n-end m-end k p m =
-    (1 ≤ m) × (m ≤ order + 1 - n) × (length p ≡ 9) × (length k ≡ 9)
-    × (innerFrom order (toZ w16 c) (order + 1 - n - m) m (arrays order p k) ≡ innerFrom order (toZ w16 c) (order - n) 1 (arrays order p₀ k₀))
+Inv-loop order k₀ p₀ v n a b c m₀ n-end m-end k p m = Inner order n (toZ w16 c) (innerFrom order (toZ w16 c) (order - n) 1 (arrays order p₀ k₀)) p k m
 
 abbrev μ-loop : tie.MeasureT-loop
 μ-loop order k₀ p₀ v n a b c m₀ n-end m-end k p m = order + 1 - n - m
 
 abbrev Inv-outer : tie.InvT-outer
-Inv-outer order k₀ p₀ v₀ n₀ n-end k p v n =
-    (1 ≤ n) × (n ≤ order + 1) × (length p ≡ 9) × (length k ≡ 9) × (length v ≡ 9)
-    × (outerFrom order (order + 1 - n) n (arrays order p k) v ≡ outerFrom order order 1 (arrays order p₀ k₀) v₀)
+Inv-outer order k₀ p₀ v₀ n₀ n-end k p v n = Outer order (outerFrom order order 1 (arrays order p₀ k₀) v₀) p k v n
 
 abbrev μ-outer : tie.MeasureT-outer
 μ-outer order k₀ p₀ v₀ n₀ n-end k p v n = order + 1 - n
@@ -94,14 +92,39 @@ module _ (c : tie.After-turned3 Inv-loop μ-loop Inv-outer μ-outer) where
       back w16 (c .turned3 .ok)
       ∙ (c .turned3 .ensures ∙ ap₂ (λ (a b : ℤ). turnedOf a b (v (inner (c .before) .before))) (back w16 (c .before .before .y .given)) (back w16 (c .before .before .before .x .given)))
 
+-- the numbers of the needs, apart from the places
+next-fits : (n : ℕ) → n < 9 → Fits w64 (n + 1)
+next-fits n h = fits-below {n = 9} tt (omega arith)
+
+outer-in : (N n : ℕ) → N ≤ 8 → n < N + 1 → n < 9
+outer-in N n a b = omega arith
+
+inner-in : (N n m : ℕ) → N ≤ 8 → 1 ≤ n → m < N + 1 - n → m + 1 < 9
+inner-in N n m a b d = omega arith
+
+m-below : (m : ℕ) → m + 1 < 9 → m < 9
+m-below m h = omega arith
+
+fewer : (a m : ℕ) → m < a → a - (m + 1) < a - m
+fewer a m h = omega arith
+
+-- the indices stay in the arrays
+n-in : (c : tie.In-outer Inv-loop μ-loop Inv-outer μ-outer) → c .before .outer .n < 9
+n-in c = outer-in (c .before .before .args .order) (c .before .outer .n) (c .before .before .pre) (c .outer-test .taken)
+
+m-in : (c : tie.In-loop Inv-loop μ-loop Inv-outer μ-outer) → c .before .loop .m + 1 < 9
+m-in c =
+    let o = head (c .before .before) in
+    inner-in (o .before .args .order) (o .outer .n) (c .before .loop .m) (o .before .pre) (o .outer .inv .0) (c .loop-test .taken)
+
+m-low : (c : tie.In-loop Inv-loop μ-loop Inv-outer μ-outer) → c .before .loop .m < 9
+m-low c = m-below (c .before .loop .m) (m-in c)
+
 add-n-end : tie.Need-add-n-end Inv-loop μ-loop Inv-outer μ-outer
-add-n-end c = search needs
+add-n-end c = next-fits (c .args .order) (suc-le-suc (c .pre))
 
 outer-holds : tie.Need-outer-holds Inv-loop μ-loop Inv-outer μ-outer
-outer-holds c =
-    let a = c .args in
-    let e : a .order + 1 - 1 ≡ a .order = omega arith in
-    (omega arith, omega arith, search needs, search needs, search needs, rw e)
+outer-holds c = outer-first (c .args .order) _ _ _ (search needs) (search needs) (search needs)
 
 array-copy-out-a : tie.Need-array-copy-out-a Inv-loop μ-loop Inv-outer μ-outer
 array-copy-out-a c = search needs
@@ -110,136 +133,117 @@ array-copy-out-b : tie.Need-array-copy-out-b Inv-loop μ-loop Inv-outer μ-outer
 array-copy-out-b c = search needs
 
 leaves-requires : tie.Need-leaves-requires Inv-loop μ-loop Inv-outer μ-outer
-leaves-requires c κs = search needs
+leaves-requires c κs = tt
 
 coefficient-requires : tie.Need-coefficient-requires Inv-loop μ-loop Inv-outer μ-outer
-coefficient-requires c κs = search needs
+coefficient-requires c κs = tt
 
 mul-v : tie.Need-mul-v Inv-loop μ-loop Inv-outer μ-outer
-mul-v c = search needs
+mul-v c = scaled-fits (c .before .before .before .before .before .before .outer .n) 9 2 (n-in (c .before .before .before .before .before)) (lit< tt)
 
 array-set-from-v : tie.Need-array-set-from-v Inv-loop μ-loop Inv-outer μ-outer
-array-set-from-v c = search needs
+array-set-from-v c = n-in (c .before .before .before .before .before)
 
 turned-requires : tie.Need-turned-requires Inv-loop μ-loop Inv-outer μ-outer
-turned-requires c κs = search needs
+turned-requires c κs = tt
 
 array-set-from-p : tie.Need-array-set-from-p Inv-loop μ-loop Inv-outer μ-outer
 array-set-from-p c = search needs
 
 add-m-end : tie.Need-add-m-end Inv-loop μ-loop Inv-outer μ-outer
-add-m-end c = search needs
+add-m-end c = next-fits (head c .before .args .order) (suc-le-suc (head c .before .pre))
 
 sub-m-end : tie.Need-sub-m-end Inv-loop μ-loop Inv-outer μ-outer
-sub-m-end c = search needs
+sub-m-end c = head c .outer .inv .1
 
 loop-holds : tie.Need-loop-holds Inv-loop μ-loop Inv-outer μ-outer
 loop-holds c =
     let o = head c in
-    let N = o .before .args .order in
-    let e : N + 1 - o .outer .n - 1 ≡ N - o .outer .n = omega arith in
-    (omega arith, omega arith, simp length-set (o .outer .inv .2), o .outer .inv .3, rw e)
+    inner-first (o .before .args .order) (o .outer .n) (v c) (o .outer .p) (o .outer .k) (toZ w16 (ofZ w16 (c .turned .result)))
+    (c .before .before .before .before .before .before .before .outer-test .taken) (o .outer .inv .2) (o .outer .inv .3)
 
 add-x : tie.Need-add-x Inv-loop μ-loop Inv-outer μ-outer
-add-x c = search needs
+add-x c = next-fits (c .before .loop .m) (m-low c)
 
 mul-x : tie.Need-mul-x Inv-loop μ-loop Inv-outer μ-outer
-mul-x c = search needs
+mul-x c = scaled-fits (c .before .loop .m + 1) 9 2 (m-in c) (lit< tt)
 
 array-copy-out-x : tie.Need-array-copy-out-x Inv-loop μ-loop Inv-outer μ-outer
-array-copy-out-x c = search needs
+array-copy-out-x c = m-in c
 
 mul-y : tie.Need-mul-y Inv-loop μ-loop Inv-outer μ-outer
-mul-y c = search needs
+mul-y c = scaled-fits (c .before .before .loop .m) 9 2 (m-low (c .before)) (lit< tt)
 
 array-copy-out-y : tie.Need-array-copy-out-y Inv-loop μ-loop Inv-outer μ-outer
-array-copy-out-y c = search needs
+array-copy-out-y c = m-low (c .before)
 
 turned-requires-2 : tie.Need-turned-requires-2 Inv-loop μ-loop Inv-outer μ-outer
-turned-requires-2 c κs = search needs
+turned-requires-2 c κs = tt
 
 mul-p : tie.Need-mul-p Inv-loop μ-loop Inv-outer μ-outer
-mul-p c = search needs
+mul-p c = scaled-fits (c .before .before .before .before .loop .m) 9 2 (m-low (c .before .before .before)) (lit< tt)
 
 array-set-from-p-2 : tie.Need-array-set-from-p-2 Inv-loop μ-loop Inv-outer μ-outer
-array-set-from-p-2 c = search needs
+array-set-from-p-2 c = m-low (c .before .before .before)
 
 turned-requires-3 : tie.Need-turned-requires-3 Inv-loop μ-loop Inv-outer μ-outer
-turned-requires-3 c κs = search needs
+turned-requires-3 c κs = tt
 
 mul-k : tie.Need-mul-k Inv-loop μ-loop Inv-outer μ-outer
-mul-k c = search needs
+mul-k c = scaled-fits (c .before .before .before .before .before .loop .m) 9 2 (m-low (c .before .before .before .before)) (lit< tt)
 
 array-set-from-k : tie.Need-array-set-from-k Inv-loop μ-loop Inv-outer μ-outer
-array-set-from-k c = search needs
+array-set-from-k c = m-low (c .before .before .before .before)
 
 add-m : tie.Need-add-m Inv-loop μ-loop Inv-outer μ-outer
-add-m c = search needs
+add-m c = next-fits (c .before .before .before .before .before .loop .m) (m-low (c .before .before .before .before))
 
 loop-less : tie.Need-loop-less Inv-loop μ-loop Inv-outer μ-outer
-loop-less c = search needs
+loop-less c = fewer (c .before .before .before .before .before .before .before .before .before .before .before .before .before .before .before .args .order + 1 - head (c .before .before .before .before .before .before) .outer .n) (c .before .before .before .before .before .loop .m) (c .before .before .before .before .loop-test .taken)
 
 loop-again : tie.Need-loop-again Inv-loop μ-loop Inv-outer μ-outer
 loop-again c =
     let t = inner (c .before) in
-    let m = t .loop .m in
     let o = head (t .before) in
-    let N = o .before .args .order in
-    let e : N + 1 - o .outer .n - m ≡ suc (N + 1 - o .outer .n - (m + 1)) = omega arith in (
-      omega arith,
-      omega arith,
-      simp length-set (t .loop .inv .2),
-      simp length-set (t .loop .inv .3),
-      rw (turned2-is (c .before), turned3-is c) (sym (inner-turn N m (t .loop .k) (t .loop .inv .0) (omega arith) (o .before .pre) (t .loop .inv .3) _ _ _ (t .loop .p) e) ∙ t .loop .inv .4),
-    )
+    inner-kept (o .before .args .order) (o .outer .n) (v (t .before)) (t .loop .m) (t .loop .p) (t .loop .k) (toZ w16 (ofZ w16 (c .before .turned2 .result))) (toZ w16 (ofZ w16 (c .turned3 .result))) _ (o .before .pre) (o .outer .inv .0)
+    (c .before .before .before .before .loop-test .taken) (t .loop .inv) (turned2-is (c .before)) (turned3-is c)
 
 add-n : tie.Need-add-n Inv-loop μ-loop Inv-outer μ-outer
-add-n c = search needs
+add-n c = next-fits (c .before .before .before .before .before .before .before .before .before .before .outer .n) (n-in (c .before .before .before .before .before .before .before .before .before))
 
 outer-less : tie.Need-outer-less Inv-loop μ-loop Inv-outer μ-outer
-outer-less c = search needs
+outer-less c = fewer (c .before .before .before .before .before .before .before .before .before .before .before .args .order + 1) (c .before .before .before .before .before .before .before .before .before .before .outer .n) (c .before .before .before .before .before .before .before .before .before .outer-test .taken)
 
 outer-again : tie.Need-outer-again Inv-loop μ-loop Inv-outer μ-outer
 outer-again c =
     let t = c .before in
     let o = head (t .before) in
-    let N = o .before .args .order in
-    let n = o .outer .n in
     let w = t .before .before .before in
-    let z : N + 1 - n - t .loop .m ≡ 0 = omega arith in
-    let e : N + 1 - n ≡ suc (N + 1 - (n + 1)) = omega arith in
-    let b = rw (turned-is (t .before), coefficient-is w) at (sym (inner-done N _ _ _ (arrays N (t .loop .p) (t .loop .k)) z) ∙ t .loop .inv .4) in (
-      omega arith,
-      omega arith,
-      t .loop .inv .2,
-      t .loop .inv .3,
-      simp length-set (o .outer .inv .4),
-      rw (coefficient-is w)
-          (sym (outer-next N _ n (arrays N (o .outer .p) (o .outer .k)) (o .outer .v) _ _ e (sym (leaves-is (w .before .before)) ∙ w .before .if1 .left) b) ∙ o .outer .inv .5),
-    )
+    outer-kept (o .before .args .order) (o .outer .n) (o .outer .p) (o .outer .k) (o .outer .v) _ (o .outer .inv) (v (t .before))
+    (sym (leaves-is (w .before .before)) ∙ w .before .if1 .left) (coefficient-is w) _ (t .loop .p) (t .loop .k) (t .loop .m)
+    (w .before .before .before .before .before .outer-test .taken) (turned-is (t .before)) (c .loop-test .left) (t .loop .inv)
 
 returns : tie.Need-returns Inv-loop μ-loop Inv-outer μ-outer
 returns c =
     let o = c .before in
     let N = o .before .args .order in
-    let e : N + 1 - o .outer .n ≡ 0 = omega arith in
-    sym (outer-done N _ _ (arrays N (o .outer .p) (o .outer .k)) (o .outer .v) e) ∙ (o .outer .inv .5 ∙ start-is N (o .before .args .sacf))
+    outer-over N (o .outer .n) (o .outer .p) (o .outer .k) (o .outer .v) _ (o .outer .inv) (c .outer-test .left) ∙ start-is N (o .before .args .sacf)
 
 returns-2 : tie.Need-returns-2 Inv-loop μ-loop Inv-outer μ-outer
 returns-2 c =
-    let o = c .before .before .before .before .before in
+    let h = c .before .before .before .before in
+    let o = h .before in
     let N = o .before .args .order in
-    let e : N + 1 - o .outer .n ≡ suc (N - o .outer .n) = omega arith in
-    sym (outer-leave N _ _ (arrays N (o .outer .p) (o .outer .k)) (o .outer .v) _ e (sym (leaves-is (c .before)) ∙ c .if1 .taken)) ∙ (o .outer .inv .5 ∙ start-is N (o .before .args .sacf))
+    outer-stop N (o .outer .n) (o .outer .p) (o .outer .k) (o .outer .v) _ (o .outer .inv) (h .outer-test .taken) (sym (leaves-is (c .before)) ∙ c .if1 .taken)
+    ∙ start-is N (o .before .args .sacf)
 
 returns-3 : tie.Need-returns-3 Inv-loop μ-loop Inv-outer μ-outer
 returns-3 c =
-    let o = c .before .before .before .before .before .before .before in
-    let N = o .before .args .order in
     let w = c .before in
-    let e : N + 1 - o .outer .n ≡ 1 = omega arith in
-    rw (coefficient-is w)
-    (sym (outer-last N _ _ (arrays N (o .outer .p) (o .outer .k)) (o .outer .v) e (sym (leaves-is (w .before .before)) ∙ w .before .if1 .left)) ∙ (o .outer .inv .5 ∙ start-is N (o .before .args .sacf)))
+    let o = w .before .before .before .before .before .before in
+    let N = o .before .args .order in
+    outer-full N (o .outer .n) (o .outer .p) (o .outer .k) (o .outer .v) _ (o .outer .inv) _ (sym (leaves-is (w .before .before)) ∙ w .before .if1 .left) (coefficient-is w) (c .if2 .taken)
+    ∙ start-is N (o .before .args .sacf)
 
 pub recursion-spec : {M : Type 1} → statement M
 recursion-spec =
