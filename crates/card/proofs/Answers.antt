@@ -13,10 +13,11 @@ use Rattle.detector.specs.Step.{stepOf}
 use Rattle.card.specs.Run.{runOf, stateOf, narrowOf, answerOf, lengthsOf, stepNumber, stepRun, stepAnswer}
 use Rattle.card.proofs.Parted.{spread}
 
--- six stores into a run of six numbers
-pub six : (l : List ℤ) (a b c d e f : ℤ) → length l ≡ 6 → set (set (set (set (set (set l 0 a) 1 b) 2 c) 3 d) 4 e) 5 f ≡ a ∷ b ∷ c ∷ d ∷ e ∷ f ∷ []
+-- six stores into a run of six numbers, of values that are known
+pub six : (l : List ℤ) → length l ≡ 6 → {a b c d e f p q r s t u : ℤ} → a ≡ p → b ≡ q → c ≡ r → d ≡ s → e ≡ t → f ≡ u
+    → set (set (set (set (set (set l 0 a) 1 b) 2 c) 3 d) 4 e) 5 f ≡ p ∷ q ∷ r ∷ s ∷ t ∷ u ∷ []
 unfolding row
-six l a b c d e f h = rw (spread l 6 h)
+six l h e0 e1 e2 e3 e4 e5 = rw (spread l 6 h, e0, e1, e2, e3, e4, e5)
 
 module _ (acf : List ℤ) (lags : List ℕ) (scale : ℤ) (run answer : List ℤ) where
   abbrev number : ℕ

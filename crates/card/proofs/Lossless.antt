@@ -1,13 +1,15 @@
 -- A run and the state in it say the same: a state that goes into a run comes back as it was, and so does a run whose numbers fit that goes into a
--- state. Then the stores that make a run of a state, and those that make the run of an answer. Assumes nothing.
+-- state. Then the fields that make the state in a run, and the stores that make the run of a state. Assumes nothing.
 use mathlib.Core.Path.{_≡_}
 use mathlib.Core.Bool.{true}
 use mathlib.Core.List.{List, [], _∷_, _++_}
+use Prim.Native.Nat.{ℕ}
 use lib.IntN.{ℤ, natAbs, pos}
 use lib.ListN.{length, set}
 use Rattle.numbers.specs.Sum.{at}
 use Rattle.numbers.proofs.Parts.{zarith, of, sign}
 use Rattle.rows.specs.Rows.{row}
+use Rattle.pairs.specs.Pairs.{pair}
 use Rattle.state.specs.declared.State.{State}
 use Rattle.state.specs.Valid.{Between, Shaped}
 use Rattle.card.specs.Run.{part, runOf, stateOf, narrowOf}
@@ -96,6 +98,14 @@ module _ (s : State) (shape : Shaped s) where
         oldlag-back,
       )
 
+-- a state whose fields are the numbers of a run, each from its place, is the state in it
+pub from-places : (l : List ℤ) {r h g : List ℤ} {n d e m a b c o v : ℤ} {p q k : ℕ}
+    → r ≡ part 0 9 l → n ≡ at l 9 → h ≡ part 10 27 l → p ≡ natAbs (at l 37) → g ≡ part 38 36 l → q ≡ natAbs (at l 74) → d ≡ at l 75 → e ≡ at l 76
+    → m ≡ at l 77 → a ≡ at l 78 → b ≡ at l 79 → c ≡ at l 80 → o ≡ at l 81 → v ≡ at l 82 → k ≡ natAbs (at l 83)
+    → _≡_ {A = State} (record { rvad = r; normrvad = n; sacf = h; ptsacf = p; sav0 = g; ptsav0 = q; lastdm = d; thvad = pair e m; adaptcount = a; burstcount = b; hangcount = c; oldlagcount = o; veryoldlagcount = v; oldlag = k }) (stateOf l)
+unfolding stateOf
+from-places l e0 e1 e2 e3 e4 e5 e6 e7 e8 e9 e10 e11 e12 e13 e14 = rw (e0, e1, e2, e3, e4, e5, e6, e7, e8, e9, e10, e11, e12, e13, e14)
+
 -- ---- a run comes back
 joined : (l : List ℤ) → length l ≡ 84 → part 0 9 l ++ ((at l 9 ∷ []) ++ (part 10 27 l ++ ((at l 37 ∷ []) ++ (part 38 36 l ++ (at l 74 ∷ at l 75 ∷ at l 76 ∷ at l 77 ∷ at l 78 ∷ at l 79 ∷ at l 80 ∷ at l 81 ∷ at l 82 ∷ at l 83 ∷ []))))) ≡ l
 unfolding part row
@@ -115,7 +125,28 @@ run-state l h t =
     )
     (joined l h)
 
--- ---- the stores that make a run
-pub packs : (z : List ℤ) (s : State) → length z ≡ 84 → Shaped s → set (set (set (set (set (set (set (set (set (set (set (set (stored (stored (stored z 0 (s .rvad) 9) 10 (s .sacf) 27) 38 (s .sav0) 36) 9 (s .normrvad)) 37 (pos (s .ptsacf))) 74 (pos (s .ptsav0))) 75 (s .lastdm)) 76 (s .thvad .e)) 77 (s .thvad .m)) 78 (s .adaptcount)) 79 (s .burstcount)) 80 (s .hangcount)) 81 (s .oldlagcount)) 82 (s .veryoldlagcount)) 83 (pos (s .oldlag)) ≡ runOf s
+-- ---- the stores that make a run: those of values that are the fields, each at its place, into a run with the three arrays
+pub packs : (z : List ℤ) (s : State) → length z ≡ 84 → Shaped s → {b : List ℤ} {n p q d e m a u g o v k : ℤ} → b ≡ stored (stored (stored z 0 (s .rvad) 9) 10 (s .sacf) 27) 38 (s .sav0) 36
+    → n ≡ s .normrvad → p ≡ pos (s .ptsacf) → q ≡ pos (s .ptsav0) → d ≡ s .lastdm → e ≡ s .thvad .e → m ≡ s .thvad .m → a ≡ s .adaptcount → u ≡ s .burstcount → g ≡ s .hangcount → o ≡ s .oldlagcount → v ≡ s .veryoldlagcount → k ≡ pos (s .oldlag)
+    → set (set (set (set (set (set (set (set (set (set (set (set b 9 n) 37 p) 74 q) 75 d) 76 e) 77 m) 78 a) 79 u) 80 g) 81 o) 82 v) 83 k ≡ runOf s
 unfolding runOf row
-packs z s h shape = rw (spread z 84 h, spread (s .rvad) 9 (shape .rvad), spread (s .sacf) 27 (shape .sacf), spread (s .sav0) 36 (shape .sav0))
+packs z s h shape e0 e1 e2 e3 e4 e5 e6 e7 e8 e9 e10 e11 e12 =
+    rw (
+      e0,
+      e1,
+      e2,
+      e3,
+      e4,
+      e5,
+      e6,
+      e7,
+      e8,
+      e9,
+      e10,
+      e11,
+      e12,
+      spread z 84 h,
+      spread (s .rvad) 9 (shape .rvad),
+      spread (s .sacf) 27 (shape .sacf),
+      spread (s .sav0) 36 (shape .sav0),
+    )

@@ -4,10 +4,10 @@ use mathlib.Core.Path.{_≡_, ap, _∙_}
 use mathlib.Core.List.{List}
 use lib.IntN.{ℤ, pos}
 use mir.Syntax.{w16, w32}
-use mir.Val.{SFits, toZ}
-use mir.Facts.{toZ-pos}
+use mir.Val.{SFits}
+use mir.Facts.{toZ-ofZ, toZ-pos}
 use Rattle.numbers.proofs.Parts.{zarith}
-use Rattle.numbers.proofs.Read.{cast-need, zreads}
+use Rattle.numbers.proofs.Read.{cast-need, cast-back}
 use Rattle.rows.specs.Rows.{row}
 use Rattle.rows.proofs.Fill.{length-row}
 use Rattle.state.specs.Valid.{Shaped}
@@ -145,19 +145,19 @@ array-set-from-out-12 c = search needs
 returns : tie.Need-returns
 returns c =
     let s = c .before .before .before .before .before .before .before .before .before .before .before .before .before .before .before .before .before .before .before .before .before .before .before .before .before .before .before in
-    let f0 = norm-fits s in
-    let f1 : toZ w32 (s .args .s .ptsacf) ≡ pos (s .args .s .ptsacf) = toZ-pos w32 (sacf-pointer-fits s .sfits) in
-    let f2 : toZ w32 (s .args .s .ptsav0) ≡ pos (s .args .s .ptsav0) = toZ-pos w32 (sav0-pointer-fits s .sfits) in
-    let f3 = exponent-fits s in
-    let f4 = mantissa-fits s in
-    let f5 = adapt-fits s in
-    let f6 = burst-fits s in
-    let f7 = hang-fits s in
-    let f8 = old-fits s in
-    let f9 = very-fits s in
-    let f10 : toZ w32 (s .args .s .oldlag) ≡ pos (s .args .s .oldlag) = toZ-pos w32 (lag-fits s .sfits) in
-    let g = dm-fits s in
-    simp zreads (rw (f1, f2, f10, base-is (c .before .before .before .before .before .before .before .before .before .before .before .before .before .before .before .before .before .before .before)) (packs (row 84 (λ i. pos 0)) (s .args .s) (length-row 84 (λ i. pos 0)) (shape s)))
+    packs (row 84 (λ i. pos 0)) (s .args .s) (length-row 84 (λ i. pos 0)) (shape s) (base-is (c .before .before .before .before .before .before .before .before .before .before .before .before .before .before .before .before .before .before .before))
+    (cast-back w16 w32 tt (norm-fits s))
+    (toZ-pos w32 (sacf-pointer-fits s .sfits))
+    (toZ-pos w32 (sav0-pointer-fits s .sfits))
+    (toZ-ofZ (dm-fits s))
+    (cast-back w16 w32 tt (exponent-fits s))
+    (cast-back w16 w32 tt (mantissa-fits s))
+    (cast-back w16 w32 tt (adapt-fits s))
+    (cast-back w16 w32 tt (burst-fits s))
+    (cast-back w16 w32 tt (hang-fits s))
+    (cast-back w16 w32 tt (old-fits s))
+    (cast-back w16 w32 tt (very-fits s))
+    (toZ-pos w32 (lag-fits s .sfits))
 
 pub packed-spec : {M : Type 1} → statement M
 packed-spec =

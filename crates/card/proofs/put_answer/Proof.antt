@@ -1,10 +1,11 @@
 -- `card::put_answer` stores six numbers, each at its place. Assumes nothing.
 use borrow.Author.Needs.{needs}
+use mathlib.Core.Path.{_∙_}
 use native.Mathlib.Omega.{arith}
 use lib.ListN.{length-set}
 use mir.Syntax.{w16, w32}
 use mir.Val.{SFits}
-use Rattle.numbers.proofs.Read.{ranged, cast-need, zreads}
+use Rattle.numbers.proofs.Read.{back, cast-need, cast-back}
 use Rattle.card.specs.Run.{answerRun}
 use Rattle.card.proofs.Answers.{six}
 use Rattle.card.proofs.put_answer.Statement.{statement}
@@ -65,13 +66,15 @@ returns : tie.Need-returns
 unfolding answerRun
 returns c =
     let s = c .before .before .before .before .before .before .before .before .before .before in
-    let f1 = acf0-e s in
-    let f2 = acf0-m s in
-    let f3 = pvad-e s in
-    let f4 = pvad-m s in
-    let f5 = ranged w32 (c .before .before .before .before .before .before .before .before .before .bit .result) (c .before .before .before .before .before .before .before .before .before .bit .ok) in
-    let f6 = ranged w32 (c .before .before .before .before .before .before .before .before .bit2 .result) (c .before .before .before .before .before .before .before .before .bit2 .ok) in
-    simp zreads (rw (c .before .before .before .before .before .before .before .before .before .bit .ensures, c .before .before .before .before .before .before .before .before .bit2 .ensures) (six (s .args .answer .now) _ _ _ _ _ _ (s .pre)))
+    let a = c .before .before .before .before .before .before .before .before .before .bit in
+    let b = c .before .before .before .before .before .before .before .before .bit2 in
+    six (s .args .answer .now) (s .pre)
+    (back w32 (a .ok) ∙ a .ensures)
+    (back w32 (b .ok) ∙ b .ensures)
+    (cast-back w16 w32 tt (acf0-e s))
+    (cast-back w16 w32 tt (acf0-m s))
+    (cast-back w16 w32 tt (pvad-e s))
+    (cast-back w16 w32 tt (pvad-m s))
 
 pub put-answer-spec : {M : Type 1} → statement M
 put-answer-spec =

@@ -1,15 +1,15 @@
 -- `card::unpacked` reads each field from its place: each number fits, since the run is narrow. Assumes nothing.
 use borrow.Author.Needs.{needs}
-use mathlib.Core.Path.{_≡_}
+use mathlib.Core.Path.{_≡_, ap}
 use native.Mathlib.Omega.{arith}
+use lib.IntN.{natAbs}
 use lib.ListN.{length}
-use mir.Syntax.{w16, w32}
-use mir.Val.{SFits}
+use mir.Syntax.{w32}
 use Rattle.numbers.specs.Sum.{at}
 use Rattle.numbers.proofs.Parts.{zarith, of, sign}
-use Rattle.numbers.proofs.Read.{ranged, zreads}
-use Rattle.card.specs.Run.{stateOf}
-use Rattle.card.proofs.Parted.{filter-fits, count-fits, sacf-within, sav0-within, lag-within}
+use Rattle.numbers.proofs.Read.{ranged, back, zreads}
+use Rattle.card.proofs.Parted.{cut-need, cut-back, filter-fits, count-fits, sacf-within, sav0-within, lag-within}
+use Rattle.card.proofs.Lossless.{from-places}
 use Rattle.card.proofs.unpacked.Statement.{statement}
 use Rattle.card.proofs.unpacked.Tie as tie
 
@@ -32,8 +32,7 @@ cast-t10 : tie.Need-cast-t10
 cast-t10 c =
     let s = c .before .before .before .before in
     let l = s .args .t1 in
-    let f : SFits w16 (at l 9) = filter-fits l (size s) (s .pre) 9 (omega arith) in
-    simp zreads f
+    cut-need (at l 9) (c .t9 .given) (filter-fits l (size s) (s .pre) 9 (omega arith))
 
 array-copy-out-t13 : tie.Need-array-copy-out-t13
 array-copy-out-t13 c = search needs
@@ -67,8 +66,7 @@ cast-t25 : tie.Need-cast-t25
 cast-t25 c =
     let s = c .before .before .before .before .before .before .before .before in
     let l = s .args .t1 in
-    let f : SFits w16 (at l 76) = count-fits l (size s) (s .pre) 0 (omega arith) in
-    simp zreads f
+    cut-need (at l 76) (c .t24 .given) (count-fits l (size s) (s .pre) 0 (omega arith))
 
 array-copy-out-t28 : tie.Need-array-copy-out-t28
 array-copy-out-t28 c = search needs
@@ -77,8 +75,7 @@ cast-t29 : tie.Need-cast-t29
 cast-t29 c =
     let s = c .before .before .before .before .before .before .before .before .before in
     let l = s .args .t1 in
-    let f : SFits w16 (at l 77) = count-fits l (size s) (s .pre) 1 (omega arith) in
-    simp zreads f
+    cut-need (at l 77) (c .t28 .given) (count-fits l (size s) (s .pre) 1 (omega arith))
 
 array-copy-out-t33 : tie.Need-array-copy-out-t33
 array-copy-out-t33 c = search needs
@@ -87,8 +84,7 @@ cast-t34 : tie.Need-cast-t34
 cast-t34 c =
     let s = c .before .before .before .before .before .before .before .before .before .before in
     let l = s .args .t1 in
-    let f : SFits w16 (at l 78) = count-fits l (size s) (s .pre) 2 (omega arith) in
-    simp zreads f
+    cut-need (at l 78) (c .t33 .given) (count-fits l (size s) (s .pre) 2 (omega arith))
 
 array-copy-out-t37 : tie.Need-array-copy-out-t37
 array-copy-out-t37 c = search needs
@@ -97,8 +93,7 @@ cast-t38 : tie.Need-cast-t38
 cast-t38 c =
     let s = c .before .before .before .before .before .before .before .before .before .before .before in
     let l = s .args .t1 in
-    let f : SFits w16 (at l 79) = count-fits l (size s) (s .pre) 3 (omega arith) in
-    simp zreads f
+    cut-need (at l 79) (c .t37 .given) (count-fits l (size s) (s .pre) 3 (omega arith))
 
 array-copy-out-t41 : tie.Need-array-copy-out-t41
 array-copy-out-t41 c = search needs
@@ -107,8 +102,7 @@ cast-t42 : tie.Need-cast-t42
 cast-t42 c =
     let s = c .before .before .before .before .before .before .before .before .before .before .before .before in
     let l = s .args .t1 in
-    let f : SFits w16 (at l 80) = count-fits l (size s) (s .pre) 4 (omega arith) in
-    simp zreads f
+    cut-need (at l 80) (c .t41 .given) (count-fits l (size s) (s .pre) 4 (omega arith))
 
 array-copy-out-t45 : tie.Need-array-copy-out-t45
 array-copy-out-t45 c = search needs
@@ -117,8 +111,7 @@ cast-t46 : tie.Need-cast-t46
 cast-t46 c =
     let s = c .before .before .before .before .before .before .before .before .before .before .before .before .before in
     let l = s .args .t1 in
-    let f : SFits w16 (at l 81) = count-fits l (size s) (s .pre) 5 (omega arith) in
-    simp zreads f
+    cut-need (at l 81) (c .t45 .given) (count-fits l (size s) (s .pre) 5 (omega arith))
 
 array-copy-out-t49 : tie.Need-array-copy-out-t49
 array-copy-out-t49 c = search needs
@@ -127,8 +120,7 @@ cast-t50 : tie.Need-cast-t50
 cast-t50 c =
     let s = c .before .before .before .before .before .before .before .before .before .before .before .before .before .before in
     let l = s .args .t1 in
-    let f : SFits w16 (at l 82) = count-fits l (size s) (s .pre) 6 (omega arith) in
-    simp zreads f
+    cut-need (at l 82) (c .t49 .given) (count-fits l (size s) (s .pre) 6 (omega arith))
 
 array-copy-out-t53 : tie.Need-array-copy-out-t53
 array-copy-out-t53 c = search needs
@@ -142,23 +134,25 @@ cast-t54 c =
     simp zreads (omega zarith, record { fits = omega (zarith, of z, sign z, b .from, b .to) })
 
 returns : tie.Need-returns
-unfolding stateOf
 returns c =
     let s = c .before .before .before .before .before .before .before .before .before .before .before .before .before .before .before in
     let l = s .args .t1 in
-    let f9 : SFits w16 (at l 9) = filter-fits l (size s) (s .pre) 9 (omega arith) in
-    let f76 : SFits w16 (at l 76) = count-fits l (size s) (s .pre) 0 (omega arith) in
-    let f77 : SFits w16 (at l 77) = count-fits l (size s) (s .pre) 1 (omega arith) in
-    let f78 : SFits w16 (at l 78) = count-fits l (size s) (s .pre) 2 (omega arith) in
-    let f79 : SFits w16 (at l 79) = count-fits l (size s) (s .pre) 3 (omega arith) in
-    let f80 : SFits w16 (at l 80) = count-fits l (size s) (s .pre) 4 (omega arith) in
-    let f81 : SFits w16 (at l 81) = count-fits l (size s) (s .pre) 5 (omega arith) in
-    let f82 : SFits w16 (at l 82) = count-fits l (size s) (s .pre) 6 (omega arith) in
-    let f37 = ranged w32 (at l 37) (c .before .before .before .before .before .before .before .before .before .before .t13 .given) in
-    let f74 = ranged w32 (at l 74) (c .before .before .before .before .before .before .before .before .before .t17 .given) in
-    let f75 = ranged w32 (at l 75) (c .before .before .before .before .before .before .before .before .t21 .given) in
-    let f83 = ranged w32 (at l 83) (c .t53 .given) in
-    simp zreads (rw (c .before .before .before .before .before .before .before .before .before .before .before .before .before .before .filter .ensures, c .before .before .before .before .before .before .before .before .before .before .before .before .before .frames .ensures, c .before .before .before .before .before .before .before .before .before .before .before .before .sums .ensures))
+    from-places l
+    (c .before .before .before .before .before .before .before .before .before .before .before .before .before .before .filter .ensures)
+    (cut-back (at l 9) (c .before .before .before .before .before .before .before .before .before .before .before .t9 .given) (filter-fits l (size s) (s .pre) 9 (omega arith)))
+    (c .before .before .before .before .before .before .before .before .before .before .before .before .before .frames .ensures)
+    (ap natAbs (back w32 {z = at l 37} (c .before .before .before .before .before .before .before .before .before .before .t13 .given)))
+    (c .before .before .before .before .before .before .before .before .before .before .before .before .sums .ensures)
+    (ap natAbs (back w32 {z = at l 74} (c .before .before .before .before .before .before .before .before .before .t17 .given)))
+    (back w32 (c .before .before .before .before .before .before .before .before .t21 .given))
+    (cut-back (at l 76) (c .before .before .before .before .before .before .before .t24 .given) (count-fits l (size s) (s .pre) 0 (omega arith)))
+    (cut-back (at l 77) (c .before .before .before .before .before .before .t28 .given) (count-fits l (size s) (s .pre) 1 (omega arith)))
+    (cut-back (at l 78) (c .before .before .before .before .before .t33 .given) (count-fits l (size s) (s .pre) 2 (omega arith)))
+    (cut-back (at l 79) (c .before .before .before .before .t37 .given) (count-fits l (size s) (s .pre) 3 (omega arith)))
+    (cut-back (at l 80) (c .before .before .before .t41 .given) (count-fits l (size s) (s .pre) 4 (omega arith)))
+    (cut-back (at l 81) (c .before .before .t45 .given) (count-fits l (size s) (s .pre) 5 (omega arith)))
+    (cut-back (at l 82) (c .before .t49 .given) (count-fits l (size s) (s .pre) 6 (omega arith)))
+    (ap natAbs (back w32 {z = at l 83} (c .t53 .given)))
 
 pub unpacked-spec : {M : Type 1} → statement M
 unpacked-spec =
