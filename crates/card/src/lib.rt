@@ -12,6 +12,7 @@ use detector::step;
 use lines::read;
 use lines::write;
 use pairs::Pair;
+use rows::all_within;
 use rows::within;
 use state::State;
 
@@ -27,12 +28,7 @@ fn shorts(run: [i32; RUN], first: usize, count: usize) -> bool
     requires { ⌜ first + count ≤ card.RUN ⌝ }
     ensures { λ r. ⌜ r ≡ card.shortsOf (card.part first count run) ⌝ }
 {
-    for i in 0..count {
-        if !within(-32768, 32767, run[first + i]) {
-            return false;
-        }
-    }
-    true
+    all_within(-32768, 32767, &run[first..first + count])
 }
 
 // Whether each number fits its field.

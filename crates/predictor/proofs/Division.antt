@@ -14,7 +14,7 @@ use Rattle.numbers.specs.Sum.{at}
 use Rattle.numbers.specs.Clamp.{clamp}
 use Rattle.numbers.proofs.Parts.{zarith}
 use Rattle.numbers.proofs.Clamp.{clamp-mono}
-use Rattle.operations.specs.Operations.{sub, abs, div}
+use Rattle.operations.specs.Operations.{abs, div}
 use Rattle.operations.proofs.Laws.{sub-fits, div-fits}
 use Rattle.rows.specs.Choice.{eqZ}
 use Rattle.rows.specs.Rows.{row}
