@@ -2,18 +2,15 @@
 use mathlib.Core.Path.{_≡_, refl, sym, ap, _∙_}
 use mathlib.Core.Bool.{Bool, true, _&&_}
 use mathlib.Core.List.{List, [], _∷_, _++_}
-use Prim.Native.Nat.{ℕ, zero, suc, _+_, _^_, _<_, _≤_}
+use Prim.Native.Nat.{ℕ, zero, suc, _+_, _<_, _≤_}
 use native.Mathlib.Omega.{arith}
 use lib.IntN.{ℤ, pos, negℤ}
 use lib.ListN.{length, take, drop, length-take, length-drop}
 use lib.Seq.{take-suc, take-all, getD-take, getD-drop}
-use lib.Signed.{mag}
-use mir.Syntax.{w16, w32}
-use mir.Val.{SFits, toZ, ofZ}
-use mir.Facts.{toZ-ofZ}
+use mir.Syntax.{w16}
+use mir.Val.{SFits}
 use Rattle.numbers.specs.Sum.{at}
 use Rattle.numbers.proofs.Parts.{zarith, of}
-use Rattle.numbers.proofs.Read.{back}
 use Rattle.rows.specs.Choice.{within}
 use Rattle.rows.specs.Rows.{row}
 use Rattle.rows.proofs.Choice.{and-left, and-right}
@@ -51,14 +48,6 @@ Short = within (negℤ (pos 32768)) (pos 32767)
 
 short-fits : (z : ℤ) → Short z ≡ true → SFits w16 z
 short-fits z t = let b = between (negℤ (pos 32768)) (pos 32767) z t in omega (zarith, of z)
-
--- a number of 32 bits that is cast to 16, which it fits: what the cast asks, and what is read there
-module _ (z : ℤ) (h : mag z < 2 ^ 31) (f : SFits w16 z) where
-  pub cut-need : SFits w16 (toZ w32 (ofZ w32 z))
-  cut-need = rw (back w32 h) f
-
-  pub cut-back : toZ w16 (ofZ w16 (toZ w32 (ofZ w32 z))) ≡ z
-  cut-back = toZ-ofZ cut-need ∙ back w32 h
 
 short-at : (first count : ℕ) (l : List ℤ) → first + count ≤ length l → shortsOf (part first count l) ≡ true → (i : ℕ) → i < count → SFits w16 (at l (first + i))
 unfolding shortsOf

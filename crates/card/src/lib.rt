@@ -2,8 +2,13 @@
 ghost use mathlib.Core.Path.{_≡_};
 ghost use mathlib.Core.Bool.{true};
 ghost use mathlib.Core.List.{_++_};
-ghost use Prim.Native.Nat.{_+_, _≤_};
+ghost use Prim.Native.Nat.{_+_, _<_, _≤_};
+ghost use lib.IntN.{natAbs, pos};
 ghost use lib.ListN.{length, take, drop};
+ghost use mir.Syntax.{w16};
+ghost use mir.Val.{SFits};
+ghost use Rattle.numbers.specs.Sum.{at};
+ghost use Rattle.state.specs.Valid.{Between};
 ghost use Rattle.card.specs.Run as card;
 ghost use Rattle.card.specs.Lines as trace;
 use detector::LAGS;
@@ -84,6 +89,30 @@ fn sums(run: [i32; RUN]) -> [i32; 36]
     out
 }
 
+// The number at i, which is one of 16 bits.
+fn short_at(run: [i32; RUN], i: usize) -> i16
+    requires { ⌜ (i < card.RUN) × SFits w16 (at run i) ⌝ }
+    ensures { λ r. ⌜ r ≡ at run i ⌝ }
+{
+    run[i] as i16
+}
+
+// The pointer at i.
+fn pointer_at(run: [i32; RUN], i: usize) -> usize
+    requires { ⌜ (i < card.RUN) × Between (pos 0) (pos 27) (at run i) ⌝ }
+    ensures { λ r. ⌜ r ≡ natAbs (at run i) ⌝ }
+{
+    run[i] as usize
+}
+
+// The last lag.
+fn last_lag(run: [i32; RUN]) -> u16
+    requires { ⌜ Between (pos 0) (pos 65535) (at run 83) ⌝ }
+    ensures { λ r. ⌜ r ≡ natAbs (at run 83) ⌝ }
+{
+    run[83] as u16
+}
+
 // The state in a run whose numbers fit.
 fn unpacked(run: [i32; RUN]) -> State
     requires { ⌜ card.narrowOf run ≡ true ⌝ }
@@ -94,22 +123,22 @@ fn unpacked(run: [i32; RUN]) -> State
     let sav0 = sums(run);
     State {
         rvad: rvad,
-        normrvad: run[9] as i16,
+        normrvad: short_at(run, 9),
         sacf: sacf,
-        ptsacf: run[37] as usize,
+        ptsacf: pointer_at(run, 37),
         sav0: sav0,
-        ptsav0: run[74] as usize,
+        ptsav0: pointer_at(run, 74),
         lastdm: run[75],
         thvad: Pair {
-            e: run[76] as i16,
-            m: run[77] as i16,
+            e: short_at(run, 76),
+            m: short_at(run, 77),
         },
-        adaptcount: run[78] as i16,
-        burstcount: run[79] as i16,
-        hangcount: run[80] as i16,
-        oldlagcount: run[81] as i16,
-        veryoldlagcount: run[82] as i16,
-        oldlag: run[83] as u16,
+        adaptcount: short_at(run, 78),
+        burstcount: short_at(run, 79),
+        hangcount: short_at(run, 80),
+        oldlagcount: short_at(run, 81),
+        veryoldlagcount: short_at(run, 82),
+        oldlag: last_lag(run),
     }
 }
 

@@ -1,14 +1,11 @@
--- `card::unpacked` reads each field from its place: each number fits, since the run is narrow. Assumes nothing.
+-- `card::unpacked` takes each field from its place: each number fits, since the run is narrow. Assumes nothing.
 use borrow.Author.Needs.{needs}
-use mathlib.Core.Path.{_≡_, ap}
+use mathlib.Core.Path.{_≡_, _∙_}
 use native.Mathlib.Omega.{arith}
-use lib.IntN.{natAbs}
 use lib.ListN.{length}
-use mir.Syntax.{w32}
-use Rattle.numbers.specs.Sum.{at}
-use Rattle.numbers.proofs.Parts.{zarith, of, sign}
-use Rattle.numbers.proofs.Read.{ranged, back, zreads}
-use Rattle.card.proofs.Parted.{cut-need, cut-back, filter-fits, count-fits, sacf-within, sav0-within, lag-within}
+use mir.Syntax.{w16, w32}
+use Rattle.numbers.proofs.Read.{back}
+use Rattle.card.proofs.Parted.{filter-fits, count-fits, sacf-within, sav0-within, lag-within}
 use Rattle.card.proofs.Lossless.{from-places}
 use Rattle.card.proofs.unpacked.Statement.{statement}
 use Rattle.card.proofs.unpacked.Tie as tie
@@ -25,134 +22,61 @@ frames-requires c κs = search needs
 sums-requires : tie.Need-sums-requires
 sums-requires c κs = search needs
 
-array-copy-out-t9 : tie.Need-array-copy-out-t9
-array-copy-out-t9 c = search needs
+short-at-requires : tie.Need-short-at-requires
+short-at-requires c κs = let s = c .before .before .before in (omega arith, filter-fits (s .args .t1) (size s) (s .pre) 9 (omega arith))
 
-cast-t10 : tie.Need-cast-t10
-cast-t10 c =
-    let s = c .before .before .before .before in
-    let l = s .args .t1 in
-    cut-need (at l 9) (c .t9 .given) (filter-fits l (size s) (s .pre) 9 (omega arith))
+pointer-at-requires : tie.Need-pointer-at-requires
+pointer-at-requires c κs = let s = c .before .before .before .before in (omega arith, sacf-within (s .args .t1) (size s) (s .pre))
 
-array-copy-out-t13 : tie.Need-array-copy-out-t13
-array-copy-out-t13 c = search needs
+pointer-at-requires-2 : tie.Need-pointer-at-requires-2
+pointer-at-requires-2 c κs = let s = c .before .before .before .before .before in (omega arith, sav0-within (s .args .t1) (size s) (s .pre))
 
-cast-t14 : tie.Need-cast-t14
-cast-t14 c =
-    let s = c .before .before .before .before .before in
-    let z = at (s .args .t1) 37 in
-    let b = sacf-within (s .args .t1) (size s) (s .pre) in
-    let f = ranged w32 z (c .t13 .given) in
-    simp zreads (omega zarith, record { fits = omega (zarith, of z, sign z, b .from, b .to) })
+array-copy-out-t14 : tie.Need-array-copy-out-t14
+array-copy-out-t14 c = search needs
 
-array-copy-out-t17 : tie.Need-array-copy-out-t17
-array-copy-out-t17 c = search needs
+short-at-requires-2 : tie.Need-short-at-requires-2
+short-at-requires-2 c κs = let s = c .before .before .before .before .before .before .before in (omega arith, count-fits (s .args .t1) (size s) (s .pre) 0 (omega arith))
 
-cast-t18 : tie.Need-cast-t18
-cast-t18 c =
-    let s = c .before .before .before .before .before .before in
-    let z = at (s .args .t1) 74 in
-    let b = sav0-within (s .args .t1) (size s) (s .pre) in
-    let f = ranged w32 z (c .t17 .given) in
-    simp zreads (omega zarith, record { fits = omega (zarith, of z, sign z, b .from, b .to) })
+short-at-requires-3 : tie.Need-short-at-requires-3
+short-at-requires-3 c κs = let s = c .before .before .before .before .before .before .before .before in (omega arith, count-fits (s .args .t1) (size s) (s .pre) 1 (omega arith))
 
-array-copy-out-t21 : tie.Need-array-copy-out-t21
-array-copy-out-t21 c = search needs
+short-at-requires-4 : tie.Need-short-at-requires-4
+short-at-requires-4 c κs = let s = c .before .before .before .before .before .before .before .before .before in (omega arith, count-fits (s .args .t1) (size s) (s .pre) 2 (omega arith))
 
-array-copy-out-t24 : tie.Need-array-copy-out-t24
-array-copy-out-t24 c = search needs
+short-at-requires-5 : tie.Need-short-at-requires-5
+short-at-requires-5 c κs = let s = c .before .before .before .before .before .before .before .before .before .before in (omega arith, count-fits (s .args .t1) (size s) (s .pre) 3 (omega arith))
 
-cast-t25 : tie.Need-cast-t25
-cast-t25 c =
-    let s = c .before .before .before .before .before .before .before .before in
-    let l = s .args .t1 in
-    cut-need (at l 76) (c .t24 .given) (count-fits l (size s) (s .pre) 0 (omega arith))
+short-at-requires-6 : tie.Need-short-at-requires-6
+short-at-requires-6 c κs = let s = c .before .before .before .before .before .before .before .before .before .before .before in (omega arith, count-fits (s .args .t1) (size s) (s .pre) 4 (omega arith))
 
-array-copy-out-t28 : tie.Need-array-copy-out-t28
-array-copy-out-t28 c = search needs
+short-at-requires-7 : tie.Need-short-at-requires-7
+short-at-requires-7 c κs = let s = c .before .before .before .before .before .before .before .before .before .before .before .before in (omega arith, count-fits (s .args .t1) (size s) (s .pre) 5 (omega arith))
 
-cast-t29 : tie.Need-cast-t29
-cast-t29 c =
-    let s = c .before .before .before .before .before .before .before .before .before in
-    let l = s .args .t1 in
-    cut-need (at l 77) (c .t28 .given) (count-fits l (size s) (s .pre) 1 (omega arith))
+short-at-requires-8 : tie.Need-short-at-requires-8
+short-at-requires-8 c κs = let s = c .before .before .before .before .before .before .before .before .before .before .before .before .before in (omega arith, count-fits (s .args .t1) (size s) (s .pre) 6 (omega arith))
 
-array-copy-out-t33 : tie.Need-array-copy-out-t33
-array-copy-out-t33 c = search needs
-
-cast-t34 : tie.Need-cast-t34
-cast-t34 c =
-    let s = c .before .before .before .before .before .before .before .before .before .before in
-    let l = s .args .t1 in
-    cut-need (at l 78) (c .t33 .given) (count-fits l (size s) (s .pre) 2 (omega arith))
-
-array-copy-out-t37 : tie.Need-array-copy-out-t37
-array-copy-out-t37 c = search needs
-
-cast-t38 : tie.Need-cast-t38
-cast-t38 c =
-    let s = c .before .before .before .before .before .before .before .before .before .before .before in
-    let l = s .args .t1 in
-    cut-need (at l 79) (c .t37 .given) (count-fits l (size s) (s .pre) 3 (omega arith))
-
-array-copy-out-t41 : tie.Need-array-copy-out-t41
-array-copy-out-t41 c = search needs
-
-cast-t42 : tie.Need-cast-t42
-cast-t42 c =
-    let s = c .before .before .before .before .before .before .before .before .before .before .before .before in
-    let l = s .args .t1 in
-    cut-need (at l 80) (c .t41 .given) (count-fits l (size s) (s .pre) 4 (omega arith))
-
-array-copy-out-t45 : tie.Need-array-copy-out-t45
-array-copy-out-t45 c = search needs
-
-cast-t46 : tie.Need-cast-t46
-cast-t46 c =
-    let s = c .before .before .before .before .before .before .before .before .before .before .before .before .before in
-    let l = s .args .t1 in
-    cut-need (at l 81) (c .t45 .given) (count-fits l (size s) (s .pre) 5 (omega arith))
-
-array-copy-out-t49 : tie.Need-array-copy-out-t49
-array-copy-out-t49 c = search needs
-
-cast-t50 : tie.Need-cast-t50
-cast-t50 c =
-    let s = c .before .before .before .before .before .before .before .before .before .before .before .before .before .before in
-    let l = s .args .t1 in
-    cut-need (at l 82) (c .t49 .given) (count-fits l (size s) (s .pre) 6 (omega arith))
-
-array-copy-out-t53 : tie.Need-array-copy-out-t53
-array-copy-out-t53 c = search needs
-
-cast-t54 : tie.Need-cast-t54
-cast-t54 c =
-    let s = c .before .before .before .before .before .before .before .before .before .before .before .before .before .before .before in
-    let z = at (s .args .t1) 83 in
-    let b = lag-within (s .args .t1) (size s) (s .pre) in
-    let f = ranged w32 z (c .t53 .given) in
-    simp zreads (omega zarith, record { fits = omega (zarith, of z, sign z, b .from, b .to) })
+last-lag-requires : tie.Need-last-lag-requires
+last-lag-requires c κs = let s = c .before .before .before .before .before .before .before .before .before .before .before .before .before .before in lag-within (s .args .t1) (size s) (s .pre)
 
 returns : tie.Need-returns
 returns c =
     let s = c .before .before .before .before .before .before .before .before .before .before .before .before .before .before .before in
-    let l = s .args .t1 in
-    from-places l
+    from-places (s .args .t1)
     (c .before .before .before .before .before .before .before .before .before .before .before .before .before .before .filter .ensures)
-    (cut-back (at l 9) (c .before .before .before .before .before .before .before .before .before .before .before .t9 .given) (filter-fits l (size s) (s .pre) 9 (omega arith)))
+    (back w16 (c .before .before .before .before .before .before .before .before .before .before .before .short-at .ok) ∙ c .before .before .before .before .before .before .before .before .before .before .before .short-at .ensures)
     (c .before .before .before .before .before .before .before .before .before .before .before .before .before .frames .ensures)
-    (ap natAbs (back w32 {z = at l 37} (c .before .before .before .before .before .before .before .before .before .before .t13 .given)))
+    (c .before .before .before .before .before .before .before .before .before .before .pointer-at .ensures)
     (c .before .before .before .before .before .before .before .before .before .before .before .before .sums .ensures)
-    (ap natAbs (back w32 {z = at l 74} (c .before .before .before .before .before .before .before .before .before .t17 .given)))
-    (back w32 (c .before .before .before .before .before .before .before .before .t21 .given))
-    (cut-back (at l 76) (c .before .before .before .before .before .before .before .t24 .given) (count-fits l (size s) (s .pre) 0 (omega arith)))
-    (cut-back (at l 77) (c .before .before .before .before .before .before .t28 .given) (count-fits l (size s) (s .pre) 1 (omega arith)))
-    (cut-back (at l 78) (c .before .before .before .before .before .t33 .given) (count-fits l (size s) (s .pre) 2 (omega arith)))
-    (cut-back (at l 79) (c .before .before .before .before .t37 .given) (count-fits l (size s) (s .pre) 3 (omega arith)))
-    (cut-back (at l 80) (c .before .before .before .t41 .given) (count-fits l (size s) (s .pre) 4 (omega arith)))
-    (cut-back (at l 81) (c .before .before .t45 .given) (count-fits l (size s) (s .pre) 5 (omega arith)))
-    (cut-back (at l 82) (c .before .t49 .given) (count-fits l (size s) (s .pre) 6 (omega arith)))
-    (ap natAbs (back w32 {z = at l 83} (c .t53 .given)))
+    (c .before .before .before .before .before .before .before .before .before .pointer-at2 .ensures)
+    (back w32 (c .before .before .before .before .before .before .before .before .t14 .given))
+    (back w16 (c .before .before .before .before .before .before .before .short-at2 .ok) ∙ c .before .before .before .before .before .before .before .short-at2 .ensures)
+    (back w16 (c .before .before .before .before .before .before .short-at3 .ok) ∙ c .before .before .before .before .before .before .short-at3 .ensures)
+    (back w16 (c .before .before .before .before .before .short-at4 .ok) ∙ c .before .before .before .before .before .short-at4 .ensures)
+    (back w16 (c .before .before .before .before .short-at5 .ok) ∙ c .before .before .before .before .short-at5 .ensures)
+    (back w16 (c .before .before .before .short-at6 .ok) ∙ c .before .before .before .short-at6 .ensures)
+    (back w16 (c .before .before .short-at7 .ok) ∙ c .before .before .short-at7 .ensures)
+    (back w16 (c .before .short-at8 .ok) ∙ c .before .short-at8 .ensures)
+    (c .last-lag .ensures)
 
 pub unpacked-spec : {M : Type 1} → statement M
 unpacked-spec =
@@ -161,27 +85,16 @@ unpacked-spec =
     filter-requires
     frames-requires
     sums-requires
-    array-copy-out-t9
-    cast-t10
-    array-copy-out-t13
-    cast-t14
-    array-copy-out-t17
-    cast-t18
-    array-copy-out-t21
-    array-copy-out-t24
-    cast-t25
-    array-copy-out-t28
-    cast-t29
-    array-copy-out-t33
-    cast-t34
-    array-copy-out-t37
-    cast-t38
-    array-copy-out-t41
-    cast-t42
-    array-copy-out-t45
-    cast-t46
-    array-copy-out-t49
-    cast-t50
-    array-copy-out-t53
-    cast-t54
+    short-at-requires
+    pointer-at-requires
+    pointer-at-requires-2
+    array-copy-out-t14
+    short-at-requires-2
+    short-at-requires-3
+    short-at-requires-4
+    short-at-requires-5
+    short-at-requires-6
+    short-at-requires-7
+    short-at-requires-8
+    last-lag-requires
     returns)

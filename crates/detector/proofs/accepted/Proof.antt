@@ -1,17 +1,42 @@
 -- `detector::accepted` runs the clauses in their order: each call gives what its definition says of what the calls before it gave. Assumes nothing.
 use borrow.Author.Needs.{needs}
-use mathlib.Core.Path.{_≡_}
+use mathlib.Core.Path.{_≡_, _∙_}
+use mathlib.Core.Bool.{Bool}
+use mathlib.Core.List.{List}
+use Prim.Native.Nat.{ℕ}
+use lib.IntN.{ℤ, pos}
+use lib.ListN.{getD}
 use mir.Syntax.{w16, w32}
 use mir.Val.{SFits}
-use Rattle.numbers.proofs.Read.{ranged, zreads}
+use mir.Facts.{toZ-ofZ}
+use Rattle.numbers.proofs.Read.{back, zreads}
+use Rattle.pairs.specs.Pairs.{greaterOf}
+use Rattle.energy.specs.declared.Energies.{Energies}
 use Rattle.energy.specs.Energy.{energyOf}
-use Rattle.lags.specs.Lags.{ptchOf}
+use Rattle.lags.specs.Lags.{ptchOf, lagcountOf}
 use Rattle.threshold.specs.Threshold.{adaptOf}
 use Rattle.threshold.specs.declared.Kept.{Kept}
+use Rattle.hangover.specs.declared.Hung.{Hung}
 use Rattle.hangover.specs.Hangover.{hangoverOf}
+use Rattle.state.specs.declared.State.{State}
+use Rattle.detector.specs.declared.Middle.{Middle}
+use Rattle.detector.specs.declared.Answer.{Answer}
 use Rattle.detector.specs.Step.{movedOf, acceptedOf}
 use Rattle.detector.proofs.accepted.Statement.{statement}
 use Rattle.detector.proofs.accepted.Tie as tie
+
+-- the answer, from what the clauses gave, one equation for each and for each number that is read back
+assembled : (L-ACF : List ℤ) (lags : List ℕ) (scalvad : ℤ) (s : State) {e : Energies} {m : Middle} {p v : Bool} {k : Kept} {h : Hung} {n d a b r o w : ℤ}
+    → e ≡ energyOf L-ACF scalvad (s .rvad) (s .normrvad)
+    → m ≡ movedOf L-ACF scalvad s
+    → p ≡ ptchOf (s .oldlagcount) (s .veryoldlagcount)
+    → k ≡ adaptOf (e .acf0) (e .pvad) p (m .stat) (m .rav1) (m .normrav1) (record { thvad = s .thvad; adaptcount = s .adaptcount; rvad = s .rvad; normrvad = s .normrvad })
+    → v ≡ greaterOf (e .pvad) (k .thvad)
+    → h ≡ hangoverOf v (s .burstcount) (s .hangcount)
+    → n ≡ k .normrvad → d ≡ m .lastdm → a ≡ k .adaptcount → b ≡ h .burstcount → r ≡ h .hangcount → o ≡ pos (lagcountOf (s .oldlag) lags) → w ≡ s .oldlagcount
+    → _≡_ {A = Answer} (record { refusal = 0; vad = h .vad; vvad = v; acf0 = e .acf0; pvad = e .pvad; next = record { rvad = k .rvad; normrvad = n; sacf = m .sacf; ptsacf = m .ptsacf; sav0 = m .sav0; ptsav0 = m .ptsav0; lastdm = d; thvad = k .thvad; adaptcount = a; burstcount = b; hangcount = r; oldlagcount = o; veryoldlagcount = w; oldlag = getD lags 3 0 } }) (acceptedOf L-ACF lags scalvad s)
+unfolding acceptedOf
+assembled L-ACF lags scalvad s e₁ e₂ e₃ e₄ e₅ e₆ n₁ n₂ n₃ n₄ n₅ n₆ n₇ = rw (n₁, n₂, n₃, n₄, n₅, n₆, n₇, e₆, e₅, e₄, e₃, e₂, e₁)
 
 norm-was : (c : tie.Start) → SFits w16 (c .args .s .normrvad)
 norm-was c = search needs
@@ -105,7 +130,6 @@ array-read-t27 : tie.Need-array-read-t27
 array-read-t27 c = search needs
 
 returns : tie.Need-returns
-unfolding acceptedOf
 returns c =
     let l = c .before .before .before .before in
     let h = c .before .before .before .before .before .before .before .before in
@@ -115,14 +139,20 @@ returns c =
     let m = c .before .before .before .before .before .before .before .before .before .before .before .before .before .before .before .before .before .before .before .before in
     let e = c .before .before .before .before .before .before .before .before .before .before .before .before .before .before .before .before .before .before .before .before .before .before .before in
     let s = c .before .before .before .before .before .before .before .before .before .before .before .before .before .before .before .before .before .before .before .before .before .before .before .before .before .before .before in
-    let f₁ = norm-fits k in
-    let f₂ = adapt-fits k in
-    let f₃ = dm-fits m in
-    let f₄ = burst-fits h in
-    let f₅ = hang-fits h in
-    let f₆ = old-was s in
-    let f₇ = ranged w16 (l .lagcount .result) (l .lagcount .ok) in
-    simp zreads (rw (l .lagcount .ensures, hangover-is h, g .greater .ensures, adapt-is k, ptch-is p, moved-is m, energy-is e))
+    assembled (s .args .acf) (s .args .t2) (s .args .scalvad) (s .args .s)
+    (energy-is e)
+    (moved-is m)
+    (ptch-is p)
+    (adapt-is k)
+    (g .greater .ensures)
+    (hangover-is h)
+    (toZ-ofZ (norm-fits k))
+    (toZ-ofZ (dm-fits m))
+    (toZ-ofZ (adapt-fits k))
+    (toZ-ofZ (burst-fits h))
+    (toZ-ofZ (hang-fits h))
+    (back w16 (l .lagcount .ok) ∙ l .lagcount .ensures)
+    (toZ-ofZ (old-was s))
 
 pub accepted-spec : {M : Type 1} → statement M
 accepted-spec =
