@@ -1,5 +1,5 @@
-// Rows of numbers: lent ones by value, and the running sums of products that three clauses use. A sum of which no step before the last can clip is
-// made as an exact one; any other is clipped at each step.
+// Rows of numbers: the test of a range, lent rows by value, and the running sums of products that three clauses use. A sum of which no step before
+// the last can clip is made as an exact one; any other is clipped at each step.
 ghost use mathlib.Core.Path.{_≡_};
 ghost use mathlib.Core.Bool.{true};
 ghost use Prim.Native.Nat.{ℕ, _^_, _<_, _≤_, min};
