@@ -1,9 +1,9 @@
 //! Feeds the detector and the second program the same input, and stops at the first difference.
 //!
-//!     harness RUN_TRACE CALLS TRACES SEED
+//!     harness RUN_TRACE NIGHT_TOTALS CALLS TRACES SEED
 //!
-//! RUN_TRACE is the program and CALLS that of calls.c, which calls the static library; compare/on_x86_64 runs them both. TRACES is a folder of
-//! NAME.trace with NAME.expected beside it, SEED a number.
+//! RUN_TRACE and NIGHT_TOTALS are the programs and CALLS that of calls.c, which calls the static library; compare/on_x86_64 runs them all. TRACES is
+//! a folder of NAME.trace with NAME.expected beside it, SEED a number.
 #[allow(dead_code)]
 #[path = "second.rs"]
 mod second;
@@ -470,6 +470,20 @@ fn compare_lengths(library: &mut Library) -> usize {
     count
 }
 
+/// The totals of a trace that comes in pieces, held to the second program's: they add up, and are those of its answers.
+fn held_totals(program: &str, what: &str, trace: &[u8], answers: &[u8], r: &mut Random) {
+    let (refusal, totals) = second::totals([0; 5], trace);
+    let of = |kinds: &[&[u8]]| answers.chunks(4).filter(|a| kinds.iter().any(|k| a.starts_with(k))).count() as u64;
+    let counts = [of(&[b"0"]), of(&[b"011"]), of(&[b"010"]), of(&[b"000"]), of(&[b"2", b"3", b"4", b"6"])];
+    if (refusal, totals) != (0, counts) || counts[0] + counts[4] != answers.len() as u64 / 4 {
+        fail(&format!("{what} (second program): totals {totals:?} and counts {counts:?}"));
+    }
+    let (got, right) = (written(program, trace, || r.from(1, 70000) as usize), second::report(totals));
+    if got != right {
+        fail(&format!("{what}: totals {} and not {}", String::from_utf8_lossy(&got), String::from_utf8_lossy(&right)));
+    }
+}
+
 /// Line by line, so that the first difference is named with its line of input.
 fn held(what: &str, trace: &[u8], got: &[u8], right: &[u8]) {
     if got == right {
@@ -483,26 +497,27 @@ fn held(what: &str, trace: &[u8], got: &[u8], right: &[u8]) {
 
 fn main() {
     let args: Vec<String> = std::env::args().collect();
-    if args.len() != 5 {
-        eprintln!("usage: harness RUN_TRACE CALLS TRACES SEED");
+    if args.len() != 6 {
+        eprintln!("usage: harness RUN_TRACE NIGHT_TOTALS CALLS TRACES SEED");
         exit(2);
     }
-    let seed: u64 = args[4].parse().expect("a number");
+    let seed: u64 = args[5].parse().expect("a number");
     let mut r = Random(seed | 1);
 
     // the traces of the repository: both programs, and the answers that are kept
     let (mut traces, mut lines) = (0, 0);
-    let mut names: Vec<_> = std::fs::read_dir(&args[3]).expect("the folder of traces").map(|e| e.unwrap().path()).collect();
+    let mut names: Vec<_> = std::fs::read_dir(&args[4]).expect("the folder of traces").map(|e| e.unwrap().path()).collect();
     names.sort();
     for path in names.iter().filter(|p| p.extension().map_or(false, |e| e == "trace")) {
         let trace = std::fs::read(path).unwrap();
         let kept = std::fs::read(path.with_extension("expected")).unwrap();
         held(&format!("{} (second program)", path.display()), &trace, &second::run(&trace), &kept);
         held(&format!("{}", path.display()), &trace, &written(&args[1], &trace, || r.from(1, 70000) as usize), &kept);
+        held_totals(&args[2], &format!("{}", path.display()), &trace, &kept, &mut r);
         traces += 1;
         lines += kept.len() / 4;
     }
-    println!("{traces} traces of {lines} lines");
+    println!("{traces} traces of {lines} lines, and their totals");
 
     // random and damaged lines, in pieces
     let mut random = 0;
@@ -511,13 +526,14 @@ fn main() {
             let trace = any_trace(&mut r, n);
             let right = second::run(&trace);
             held("random lines", &trace, &written(&args[1], &trace, || r.from(1, 70000) as usize), &right);
+            held_totals(&args[2], "random lines", &trace, &right, &mut r);
             random += right.len() / 4;
         }
     }
-    println!("{random} random and damaged lines");
+    println!("{random} random and damaged lines, and the totals of their traces");
 
     // random valid states and frames, one step each, and runs of them
-    let library = &mut Library { program: &args[2], waiting: Vec::new() };
+    let library = &mut Library { program: &args[3], waiting: Vec::new() };
     let mut steps = 0;
     for _ in 0..400_000 {
         let m = any_state(&mut r);

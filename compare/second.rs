@@ -416,10 +416,9 @@ pub fn decode(line: &[u8]) -> Result<(Vec<i64>, Vec<i64>, i64), i64> {
     }
 }
 
-/// The answers to a whole trace.
-pub fn run(trace: &[u8]) -> Vec<u8> {
+/// Hands on the answer to each line of a trace: its refusal, vad and vvad.
+fn answers(trace: &[u8], mut hand: impl FnMut(i64, i64, i64)) {
     let mut memory = Memory::reset();
-    let mut out = Vec::with_capacity(trace.len() / LINE * 4 + 4);
     for line in trace.split_inclusive(|b| *b == b'\n') {
         let (refusal, vad, vvad) = match decode(line) {
             Ok((acf, lags, scal)) => {
@@ -429,7 +428,50 @@ pub fn run(trace: &[u8]) -> Vec<u8> {
             }
             Err(n) => (n, 0, 0),
         };
-        out.extend([48 + refusal as u8, 48 + vad as u8, 48 + vvad as u8, b'\n']);
+        hand(refusal, vad, vvad);
     }
+}
+
+/// The answers to a whole trace.
+pub fn run(trace: &[u8]) -> Vec<u8> {
+    let mut out = Vec::with_capacity(trace.len() / LINE * 4 + 4);
+    answers(trace, |refusal, vad, vvad| out.extend([48 + refusal as u8, 48 + vad as u8, 48 + vvad as u8, b'\n']));
     out
+}
+
+// ---- a night's totals
+
+/// Accepted frames, those with vvad, those kept only by hangover, quiet ones, and refused lines.
+pub type Totals = [u64; 5];
+
+/// The totals with those of a trace, and 0; or 7 and the totals reached at the line that would be number 4,294,967,296.
+pub fn totals(so_far: Totals, trace: &[u8]) -> (i64, Totals) {
+    let [mut accepted, mut speech, mut held, mut quiet, mut refused] = so_far;
+    let mut number = 0;
+    answers(trace, |refusal, vad, vvad| {
+        if number == 7 || accepted + refused >= 0xFFFF_FFFF {
+            number = 7;
+            return;
+        }
+        if refusal != 0 {
+            refused += 1;
+            return;
+        }
+        accepted += 1;
+        *(if vvad == 1 {
+            &mut speech
+        } else if vad == 1 {
+            &mut held
+        } else {
+            &mut quiet
+        }) += 1;
+    });
+    (number, [accepted, speech, held, quiet, refused])
+}
+
+/// The line of the report.
+pub fn report(totals: Totals) -> Vec<u8> {
+    let mut line: String = totals.iter().map(|n| format!("{n:08X}")).collect();
+    line.push('\n');
+    line.into_bytes()
 }

@@ -11,7 +11,7 @@ use Rattle.lines.specs.Worked.{line, decodes}
 use Rattle.pieces.specs.Lines.{onFirst, linesOf}
 use Rattle.pieces.specs.Pieces.{textAfter}
 use Rattle.runner.specs.Said.{flagOf, textOf, steppedOf, saidOf}
-use Rattle.runner.specs.Run.{answerOf, answersOf, runOf}
+use Rattle.runner.specs.Run.{replyOf, answerOf, answersOf, runOf}
 use Rattle.demands.specs.Worked.{answer-1-0}
 
 -- `00000001`, 64 zeros, `0`, `28282828`, line feed
@@ -23,12 +23,12 @@ unfoldable pub output : List ℕ
 output = 48 ∷ 48 ∷ 48 ∷ 10 ∷ []
 
 -- the input is one line, that of crates/lines/specs/Worked.antt
-one-line : runOf input ≡ saidOf resetOf line .text ++ []
-unfolding input line IF_THEN_ELSE_ onFirst linesOf textAfter answerOf answersOf runOf
+one-line : runOf input ≡ textOf (saidOf resetOf line .reply) ++ []
+unfolding input line IF_THEN_ELSE_ onFirst linesOf textAfter replyOf answerOf answersOf runOf
 one-line = refl
 
 -- which is answered as its frame is
-said : saidOf resetOf line .text ≡ output
+said : textOf (saidOf resetOf line .reply) ≡ output
 unfolding output saidOf steppedOf textOf flagOf IF_THEN_ELSE_
 said = rw (decodes, answer-1-0 .0, answer-1-0 .1, answer-1-0 .2)
 

@@ -15,44 +15,48 @@ pub struct Input {
     pub length: usize,
 }
 
-// What a reading gives: the first `n` bytes of the piece, and whether there may be more.
+// What a reading gives: the first `n` bytes of the piece, whether there may be more, and whether it failed.
 pub struct Got {
     pub n: usize,
     pub more: bool,
+    pub failed: bool,
 }
 
-// Opens the file that is named as the program's one word, or takes standard input where none is. With more words `usage` is written to
-// standard error.
-pub fn open(usage: &[u8]) -> Input
+// Standard input.
+pub fn standard() -> Input
+    ensures { λ r. ⌜ Counts (r .length) (r .name) ⌝ }
+{
+    let name = io::buffer();
+    Input {
+        open: true,
+        fd: STDIN_FILENO,
+        name,
+        length: 0,
+    }
+}
+
+// An input that can't be read.
+fn none() -> Input
+    ensures { λ r. ⌜ Counts (r .length) (r .name) ⌝ }
+{
+    let name = io::buffer();
+    Input {
+        open: false,
+        fd: -1,
+        name,
+        length: 0,
+    }
+}
+
+// Opens the file that the program's word `i` names.
+pub fn named(i: usize) -> Input
     ensures { λ r. ⌜ Counts (r .length) (r .name) ⌝ }
 {
     let mut name = io::buffer();
-    if os::arg_count() < 2 {
-        return Input {
-            open: true,
-            fd: STDIN_FILENO,
-            name,
-            length: 0,
-        };
-    }
-    if os::arg_count() > 2 {
-        io::write_all(STDERR_FILENO, usage);
-        return Input {
-            open: false,
-            fd: -1,
-            name,
-            length: 0,
-        };
-    }
-    let length = os::arg(1, &mut name);
+    let length = os::arg(i, &mut name);
     if os::errno() != 0 {
         os::fail(b"the file's name");
-        return Input {
-            open: false,
-            fd: -1,
-            name,
-            length: 0,
-        };
+        return none();
     }
     let fd = os::open_read(&name[..length]);
     if fd < 0 {
@@ -64,6 +68,31 @@ pub fn open(usage: &[u8]) -> Input
         name,
         length,
     }
+}
+
+// Opens the file that is named as the program's one word, or takes standard input where none is. With more words `usage` is written to
+// standard error.
+pub fn open(usage: &[u8]) -> Input
+    ensures { λ r. ⌜ Counts (r .length) (r .name) ⌝ }
+{
+    if os::arg_count() < 2 {
+        return standard();
+    }
+    if os::arg_count() > 2 {
+        io::write_all(STDERR_FILENO, usage);
+        return none();
+    }
+    named(1)
+}
+
+// Names an input on standard error, and says `what` of it.
+pub fn say(name: &[u8], what: &[u8]) {
+    if name.len() == 0 {
+        io::write_all(STDERR_FILENO, b"standard input");
+    } else {
+        io::write_all(STDERR_FILENO, name);
+    }
+    io::write_all(STDERR_FILENO, what);
 }
 
 // Reads once. An input that can't be read is named, and ends.
@@ -80,7 +109,11 @@ pub fn read(fd: i32, name: &[u8], piece: &mut [u8]) -> Got
         }
     }
     let n = io::count(got, piece);
-    Got { n, more: n > 0 }
+    Got {
+        n,
+        more: n > 0,
+        failed: got < 0,
+    }
 }
 
 // Writes a text to standard output. Whether all of it could be written; if not, that is named.

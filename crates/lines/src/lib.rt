@@ -130,6 +130,15 @@ fn put(line: &mut [u8], at: usize, k: usize, x: u32)
     }
 }
 
+// The eight digits of a number.
+pub fn eight(x: u32) -> [u8; 8]
+    ensures { λ r. ⌜ r ≡ hex.digitsOf 8 x ⌝ }
+{
+    let mut digits = [48u8; 8];
+    put(&mut digits, 0, 8, x);
+    digits
+}
+
 // ---- a line to read
 
 // Whether a line is 81 digits and a line feed. The loop never leaves, for speed: it is done many characters at a time.

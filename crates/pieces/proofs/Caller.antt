@@ -40,6 +40,11 @@ module _ {S : Type 0} (next : S → List ℕ → S) (text : S → List ℕ → L
     state-short s [] = refl
     state-short s (l ∷ ls) = ap (λ (t : S). stateAfter next t (shorts ls)) (cap s l) ∙ state-short (next s l) ls
 
+    -- the state that the pieces leave is that of the lines of the whole input
+    pub state-whole : (s : S) (ps : List (List ℕ)) → stateAfter next s (handedAll (finderOf []) ps) ≡ stateAfter next s (linesOf (flat ps))
+    state-whole s ps =
+        sym (state-short s (handedAll (finderOf []) ps)) ∙ (ap (stateAfter next s) (whole ps) ∙ state-short s (linesOf (flat ps)))
+
     module _ (capt : (s : S) (l : List ℕ) → text s (short l) ≡ text s l) where
       pub text-short : (s : S) (ls : List (List ℕ)) → textAfter next text s (shorts ls) ≡ textAfter next text s ls
       unfolding textAfter shorts

@@ -4,3 +4,4 @@ pub mod Carried
 pub mod Whole
 pub mod Caller
 pub mod Runs
+pub mod Folds

@@ -51,6 +51,17 @@ pub line-on : (l : List ℕ) (i to : ℕ) → i < length l → to ≡ i + firstO
 unfolding firstOf
 line-on l i to h e = let d = length-drop i l in omega arith
 
+-- a piece of which x is the head and y the whole lines
+module _ (f : Finder) (p x y : List ℕ) (hx : x ≡ headOf f p) (hy : y ≡ midOf f p) where
+  lines : linesOf x ++ linesOf y ≡ handedOf f p
+  unfolding handedOf
+  lines = ap₂ (λ (a b : List ℕ). linesOf a ++ linesOf b) hx hy
+
+  pub head-then-mid : {S : Type 0} (next : S → List ℕ → S) (text : S → List ℕ → List ℕ) (s₀ s₁ s₂ : S)
+      → s₁ ≡ stateAfter next s₀ (linesOf x) → s₂ ≡ stateAfter next s₁ (linesOf y) → s₂ ≡ stateAfter next s₀ (handedOf f p)
+  head-then-mid {S} next text s₀ s₁ s₂ e₁ e₂ =
+      e₂ ∙ (ap (λ (z : S). stateAfter next z (linesOf y)) e₁ ∙ (sym (state-append next text s₀ (linesOf x) (linesOf y)) ∙ ap (stateAfter next s₀) lines))
+
 module _ {S : Type 0} (next : S → List ℕ → S) (text : S → List ℕ → List ℕ) (k : ℕ) (most : (s : S) (l : List ℕ) → length (text s l) ≤ k) where
   pub runs-start : (l : List ℕ) (s : S) (at : ℕ) (o : List ℕ) → at + k * length (linesOf l) ≤ length o → Runs next text k l s at o 0 s at o
   runs-start l s at o h = record { within = omega arith; room = h; same = refl; state = refl; count = refl; written = refl }
@@ -121,10 +132,6 @@ module _ {S : Type 0} (next : S → List ℕ → S) (text : S → List ℕ → L
     abbrev first : List ℕ
     first = textAfter next text s₀ (linesOf x)
 
-    lines : linesOf x ++ linesOf y ≡ handedOf f p
-    unfolding handedOf
-    lines = ap₂ (λ (a b : List ℕ). linesOf a ++ linesOf b) hx hy
-
     both : k * length (linesOf x) + k * length (linesOf y) ≤ length o₀
     both =
         let h = ap₂ (λ (a b : List ℕ). length (linesOf a) + length (linesOf b)) hx hy in
@@ -145,10 +152,10 @@ module _ {S : Type 0} (next : S → List ℕ → S) (text : S → List ℕ → L
       second = textAfter next text s₁ (linesOf y)
 
       pub piece-state : s₂ ≡ stateAfter next s₀ (handedOf f p)
-      piece-state = e₂ ∙ (ap (λ (z : S). stateAfter next z (linesOf y)) e₁ ∙ (sym (state-append next text s₀ (linesOf x) (linesOf y)) ∙ ap (stateAfter next s₀) lines))
+      piece-state = head-then-mid f p x y hx hy next text s₀ s₁ s₂ e₁ e₂
 
       piece-text : first ++ second ≡ textAfter next text s₀ (handedOf f p)
-      piece-text = ap (λ (z : S). first ++ textAfter next text z (linesOf y)) e₁ ∙ (sym (text-append next text s₀ (linesOf x) (linesOf y)) ∙ ap (textAfter next text s₀) lines)
+      piece-text = ap (λ (z : S). first ++ textAfter next text z (linesOf y)) e₁ ∙ (sym (text-append next text s₀ (linesOf x) (linesOf y)) ∙ ap (textAfter next text s₀) (lines f p x y hx hy))
 
       pub piece-count : n₂ ≡ length (textAfter next text s₀ (handedOf f p))
       piece-count = let l = length-append first second in let e : n₂ ≡ length (first ++ second) = omega arith in e ∙ ap length piece-text

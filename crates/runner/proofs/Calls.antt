@@ -3,7 +3,7 @@
 use mathlib.Core.Path.{_≡_, refl, sym, ap, ap₂, _∙_}
 use mathlib.Core.Bool.{false}
 use mathlib.Core.List.{List, [], _∷_, _++_, append-nil}
-use Prim.Native.Nat.{ℕ, _+_, _/_, _≤_}
+use Prim.Native.Nat.{ℕ, _/_, _≤_}
 use native.Mathlib.Omega.{arith}
 use borrow.Author.Tests.{le-leb, leb-true, eqb-true, eqb-false}
 use lib.Dec.{eqb, leb}
@@ -11,7 +11,6 @@ use lib.ListN.{length, take}
 use lib.Seq.{take-all}
 use Rattle.rows.specs.Choice.{IF_THEN_ELSE_}
 use Rattle.rows.proofs.Choice.{by-test}
-use Rattle.rows.specs.Rows.{all}
 use Rattle.state.specs.declared.State.{State}
 use Rattle.state.specs.Valid.{resetOf}
 use Rattle.pieces.specs.Lines.{linesOf}
@@ -26,7 +25,7 @@ use Rattle.runner.specs.declared.Runner.{Runner}
 use Rattle.runner.specs.declared.Fed.{Fed}
 use Rattle.runner.specs.declared.Said.{Said}
 use Rattle.runner.specs.Said.{deniedOf, textOf}
-use Rattle.runner.specs.Run.{nextOf, answerOf, stateOf, answersOf, runOf}
+use Rattle.runner.specs.Run.{nextOf, replyOf, answerOf, stateOf, answersOf, runOf}
 use Rattle.runner.specs.Fed.{startOf, writtenOf, nextRunner, fedOf, outAfter, finishOf, Call, piecesOf, callsFrom}
 use Rattle.runner.proofs.Steps.{said-cut, said-short, answer-most}
 
@@ -64,9 +63,9 @@ unfolding finishOf
 finish-fits r = by-test (λ (n : ℕ). n ≤ 4) (eqb (length (heldOf (r .finder))) 0) _ _ (λ t. omega arith) (λ t. omega arith)
 
 -- which is answered `600`
-pub finish-text : (r : Runner) → finishOf r .text ≡ textOf 6 false false
-unfolding finishOf answerOf deniedOf
-finish-text r = ap (λ (x : Said). x .text) (said-cut (r .state) (heldOf (r .finder)) (held-plain (r .finder)))
+pub finish-text : (r : Runner) → finishOf r .text ≡ textOf (record { refusal = 6; vad = false; vvad = false })
+unfolding finishOf answerOf replyOf deniedOf
+finish-text r = ap (λ (x : Said). textOf (x .reply)) (said-cut (r .state) (heldOf (r .finder)) (held-plain (r .finder)))
 
 finish-last : (r : Runner) → take (finishOf r .wrote) (finishOf r .text) ≡ answersOf (r .state) (linesOf (heldOf (r .finder)))
 unfolding finishOf
@@ -92,8 +91,8 @@ calls-from r (c ∷ cs) =
 
 -- however an input is cut, the answers to the lines that are handed out are those of the run of the whole
 pub cut : (ps : List (List ℕ)) → answersOf resetOf (handedAll (finderOf []) ps) ≡ runOf (flat ps)
-unfolding runOf answersOf nextOf answerOf
-cut ps = text-whole nextOf answerOf (λ s l. ap (λ (x : Said). x .next) (said-short s l)) (λ s l. ap (λ (x : Said). x .text) (said-short s l)) _ ps
+unfolding runOf answersOf nextOf replyOf answerOf
+cut ps = text-whole nextOf answerOf (λ s l. ap (λ (x : Said). x .next) (said-short s l)) (λ s l. ap (λ (x : Said). textOf (x .reply)) (said-short s l)) _ ps
 
 -- what a caller gets by the promises
 pub called : (cs : List Call) → callsFrom startOf cs ≡ runOf (flat (piecesOf cs))

@@ -2,7 +2,7 @@
 use mathlib.Core.Path.{_≡_, refl, sym, ap, _∙_}
 use mathlib.Core.Bool.{true}
 use mathlib.Core.List.{List}
-use Prim.Native.Nat.{ℕ, _≤_}
+use Prim.Native.Nat.{ℕ, _<_, _≤_}
 use native.Mathlib.Omega.{arith}
 use borrow.Author.Tests.{eqb-true, eq-eqb, ne-eqb, leb-true, leb-false}
 use lib.Dec.{eqb, leb}
@@ -18,10 +18,11 @@ use Rattle.state.specs.declared.State.{State}
 use Rattle.detector.specs.Step.{stepOf}
 use Rattle.pieces.specs.Lines.{plainOf, short, kept}
 use Rattle.pieces.proofs.Found.{plain-at}
+use Rattle.runner.specs.declared.Reply.{Reply}
 use Rattle.runner.specs.declared.Said.{Said}
 use Rattle.runner.specs.Said.{saidOf, deniedOf, steppedOf, textOf}
-use Rattle.runner.specs.Run.{answerOf}
-use Rattle.runner.proofs.Small.{size-no}
+use Rattle.runner.specs.Run.{replyOf, answerOf}
+use Rattle.runner.proofs.Small.{step-small, decoded-small, size-no}
 
 pub said-no : (s : State) (l : List ℕ) → (decodedOf l .refusal ≡ 0 → ⊥) → saidOf s l ≡ deniedOf (decodedOf l .refusal) s
 unfolding saidOf IF_THEN_ELSE_
@@ -31,13 +32,21 @@ pub said-ok : (s : State) (l : List ℕ) → decodedOf l .refusal ≡ 0 → said
 unfolding saidOf IF_THEN_ELSE_
 said-ok s l h = rw (eq-eqb (decodedOf l .refusal) 0 h)
 
-pub said-four : (s : State) (l : List ℕ) → length (saidOf s l .text) ≡ 4
-unfolding saidOf steppedOf deniedOf textOf
-said-four s l = by-test (λ (x : Said). length (x .text) ≡ 4) (eqb (decodedOf l .refusal) 0) _ _ (λ t. refl) (λ t. refl)
+-- its number is a digit, and its text has four bytes
+pub said-small : (s : State) (l : List ℕ) → saidOf s l .reply .refusal < 10
+unfolding saidOf steppedOf deniedOf
+said-small s l =
+    by-test (λ (x : Said). x .reply .refusal < 10) (eqb (decodedOf l .refusal) 0) _ _
+    (λ t. step-small (decodedOf l .acf) (decodedOf l .lags) (decodedOf l .scale) s)
+    (λ t. decoded-small l)
+
+pub text-four : (r : Reply) → length (textOf r) ≡ 4
+unfolding textOf
+text-four r = refl
 
 pub answer-most : (s : State) (l : List ℕ) → length (answerOf s l) ≤ 4
 unfolding answerOf
-answer-most s l = let h = said-four s l in omega arith
+answer-most s l = let h = text-four (replyOf s l) in omega arith
 
 -- ---- of a line the first 85 bytes are enough
 pub said-long : (s : State) (l : List ℕ) → (length l ≡ 82 → ⊥) → saidOf s l ≡ deniedOf 6 s

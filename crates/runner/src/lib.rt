@@ -38,13 +38,51 @@ pub struct Last {
     pub text: [u8; ANSWER],
 }
 
+// The answer to a line: its refusal number, vad and vvad.
+pub struct Reply {
+    pub refusal: u8,
+    pub vad: bool,
+    pub vvad: bool,
+}
+
 // What a line is answered, and the state for the next one.
 pub struct Said {
-    pub text: [u8; ANSWER],
+    pub reply: Reply,
     pub next: State,
 }
 
 // ---- one line
+
+// What a line, with its line feed, is answered.
+pub fn answer(s: State, line: &[u8]) -> Said
+    ensures { λ r. ⌜ r ≡ one.saidOf s (now (line .entry)) ⌝ }
+{
+    let d = lines::decode(line);
+    let n = d.refusal;
+    if n != 0 {
+        return Said {
+            reply: Reply {
+                refusal: n,
+                vad: false,
+                vvad: false,
+            },
+            next: s,
+        };
+    }
+    let acf = d.acf;
+    let lags = d.lags;
+    let scale = d.scale;
+    let r = detector::step(&acf, &lags, scale, s);
+    let next = r.next;
+    Said {
+        reply: Reply {
+            refusal: r.refusal,
+            vad: r.vad,
+            vvad: r.vvad,
+        },
+        next,
+    }
+}
 
 // A flag as a character.
 fn flag(b: bool) -> u8
@@ -57,57 +95,31 @@ fn flag(b: bool) -> u8
 }
 
 // The four bytes of an answer.
-fn text(n: u8, vad: bool, vvad: bool) -> [u8; ANSWER]
-    requires { ⌜ n < 10 ⌝ }
-    ensures { λ r. ⌜ r ≡ one.textOf n vad vvad ⌝ }
+fn text(r: Reply) -> [u8; ANSWER]
+    requires { ⌜ r .refusal < 10 ⌝ }
+    ensures { λ t. ⌜ t ≡ one.textOf r ⌝ }
 {
-    let a = flag(vad);
-    let b = flag(vvad);
-    [48 + n, a, b, 10]
-}
-
-// The answer to a line that is refused as it is read.
-fn denied(n: u8, s: State) -> Said
-    requires { ⌜ n < 10 ⌝ }
-    ensures { λ r. ⌜ r ≡ one.deniedOf n s ⌝ }
-{
-    let t = text(n, false, false);
-    Said { text: t, next: s }
-}
-
-// What a line, with its line feed, is answered.
-fn answer(s: State, line: &[u8]) -> Said
-    ensures { λ r. ⌜ r ≡ one.saidOf s (now (line .entry)) ⌝ }
-{
-    let d = lines::decode(line);
-    let n = d.refusal;
-    if n != 0 {
-        return denied(n, s);
-    }
-    let acf = d.acf;
-    let lags = d.lags;
-    let scale = d.scale;
-    let r = detector::step(&acf, &lags, scale, s);
-    let t = text(r.refusal, r.vad, r.vvad);
-    let next = r.next;
-    Said { text: t, next }
+    let a = flag(r.vad);
+    let b = flag(r.vvad);
+    [48 + r.refusal, a, b, 10]
 }
 
 // ---- a run in pieces
 
-// Answers the lines of a text; the answers are written from `at` on.
-fn run(s: State, text: &[u8], out: &mut [u8], at: usize) -> Ran
-    requires { ⌜ at + one.answerBytes * length (linesOf (now text)) ≤ length (now out) ⌝ }
-    ensures { λ r. ⌜ r ≡ piece.ranOf s (now (text .entry)) at ⌝ }
-    ensures { λ r. ⌜ now (out .exit) ≡ putOf (now (out .entry)) at (run.answersOf s (linesOf (now (text .entry)))) ⌝ }
+// Answers the lines of an input; the answers are written from `at` on.
+fn run(s: State, input: &[u8], out: &mut [u8], at: usize) -> Ran
+    requires { ⌜ at + one.answerBytes * length (linesOf (now input)) ≤ length (now out) ⌝ }
+    ensures { λ r. ⌜ r ≡ piece.ranOf s (now (input .entry)) at ⌝ }
+    ensures { λ r. ⌜ now (out .exit) ≡ putOf (now (out .entry)) at (run.answersOf s (linesOf (now (input .entry)))) ⌝ }
 {
     let mut state = s;
     let mut wrote = at;
     let mut i: usize = 0;
-    while i < text.len() {
-        let to = pieces::line_end(text, i);
-        let a = answer(state, &text[i..to]);
-        let t = a.text;
+    while i < input.len() {
+        let to = pieces::line_end(input, i);
+        let a = answer(state, &input[i..to]);
+        let reply = a.reply;
+        let t = text(reply);
         pieces::put(out, wrote, &t);
         wrote += ANSWER;
         state = a.next;
@@ -168,7 +180,8 @@ pub fn finish(r: Runner) -> Last
     let n = pieces::held(finder);
     let line = finder.line;
     let a = answer(state, &line[..n]);
-    let t = a.text;
+    let reply = a.reply;
+    let t = text(reply);
     if n == 0 {
         return Last { wrote: 0, text: t };
     }

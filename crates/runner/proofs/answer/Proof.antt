@@ -1,19 +1,14 @@
 -- `runner::answer` reads the line and passes its frame to the detector. Assumes nothing.
 use borrow.Author.Needs.{needs}
 use mathlib.Core.Path.{_≡_, sym, ap, _∙_}
-use mathlib.Core.List.{List}
 use Prim.Native.Nat.{ℕ}
 use native.Mathlib.Omega.{arith}
 use mir.Syntax.{w16}
 use mir.Val.{SFits}
 use Rattle.numbers.proofs.Read.{zreads}
-use Rattle.state.specs.declared.State.{State}
-use Rattle.detector.specs.declared.Answer.{Answer}
 use Rattle.detector.specs.Step.{stepOf}
 use Rattle.lines.specs.declared.Decoded.{Decoded}
-use Rattle.runner.specs.declared.Said.{Said}
 use Rattle.runner.specs.Said.{steppedOf, deniedOf}
-use Rattle.runner.proofs.Small.{decoded-small, step-small}
 use Rattle.runner.proofs.Steps.{said-no, said-ok}
 use Rattle.runner.proofs.answer.Statement.{statement}
 use Rattle.runner.proofs.answer.Tie as tie
@@ -21,15 +16,13 @@ use Rattle.runner.proofs.answer.Tie as tie
 decode-requires : tie.Need-decode-requires
 decode-requires c κs = search needs
 
-denied-requires : tie.Need-denied-requires
-denied-requires c κs = let h = decoded-small (c .before .before .before .args .line .now) in omega (arith, ap (λ (d : Decoded). d .refusal) (c .before .decode .ensures))
-
 returns : tie.Need-returns
+unfolding deniedOf
 returns c =
-    let d = c .before .before .decode .ensures in
-    let s = c .before .before .before .before in
+    let d = c .before .decode .ensures in
+    let s = c .before .before .before in
     let n = ap (λ (x : Decoded). x .refusal) d in
-    c .denied .ensures ∙ (ap (λ (k : ℕ). deniedOf k (s .args .s)) n ∙ sym (said-no (s .args .s) (s .args .line .now) (λ z. c .before .if1 .taken (n ∙ z))))
+    ap (λ (k : ℕ). deniedOf k (s .args .s)) n ∙ sym (said-no (s .args .s) (s .args .line .now) (λ z. c .if1 .taken (n ∙ z)))
 
 slice-aggregate-step : tie.Need-slice-aggregate-step
 slice-aggregate-step c = search needs
@@ -51,16 +44,6 @@ step-is : (c : tie.After-step)
     → c .step .result ≡ stepOf (decoding c .decode .result .acf) (decoding c .decode .result .lags) (decoding c .decode .result .scale) (decoding c .before .before .args .s)
 step-is c = let f = scale-fits (decoding c) in simp zreads at (c .step .ensures)
 
-text-requires : tie.Need-text-requires
-text-requires c κs =
-    let d = decoding c .decode .result in
-    let e = ap (λ (x : Answer). x .refusal) (step-is c) in
-    let h = step-small (d .acf) (d .lags) (d .scale) (decoding c .before .before .args .s) in
-    omega arith
-
-abbrev of : List ℕ → State → Said
-of x s = record { text = x; next = s }
-
 zero-is : (c : tie.Else1) → c .before .decode .result .refusal ≡ 0
 zero-is c = omega arith
 
@@ -68,23 +51,20 @@ returns-2 : tie.Need-returns-2
 unfolding steppedOf
 returns-2 c =
     let t = c .before in
-    let d = t .before .before .before .before .before .before .before .before in
+    let d = decoding t in
     let s = d .before .before in
     let n = ap (λ (x : Decoded). x .refusal) (d .decode .ensures) in
-    let z = zero-is (t .before .before .before .before .before .before .before) in
-    ap (λ (x : List ℕ). of x (t .before .step .result .next)) (t .text .ensures)
-    ∙ (ap steppedOf (step-is (t .before) ∙ ap (λ (x : Decoded). stepOf (x .acf) (x .lags) (x .scale) (s .args .s)) (d .decode .ensures))
-    ∙ sym (said-ok (s .args .s) (s .args .line .now) (sym n ∙ z)))
+    let z = zero-is (t .before .before .before .before .before .before) in
+    ap steppedOf (step-is t ∙ ap (λ (x : Decoded). stepOf (x .acf) (x .lags) (x .scale) (s .args .s)) (d .decode .ensures))
+    ∙ sym (said-ok (s .args .s) (s .args .line .now) (sym n ∙ z))
 
 pub answer-spec : {M : Type 1} → statement M
 answer-spec =
     tie.close
     (tie.spec
     decode-requires
-    denied-requires
     returns
     slice-aggregate-step
     slice-aggregate-step-2
     step-requires
-    text-requires
     returns-2)

@@ -1,7 +1,7 @@
 -- `runner::finish` answers what is carried, if anything is. Assumes nothing.
 use borrow.Author.Needs.{needs}
-use mathlib.Core.Path.{_≡_, sym, ap, _∙_}
-use Prim.Native.Nat.{_≤_}
+use mathlib.Core.Path.{_≡_, sym, ap, subst, _∙_}
+use Prim.Native.Nat.{_<_, _≤_}
 use native.Mathlib.Omega.{arith}
 use borrow.Author.Tests.{eq-eqb, ne-eqb}
 use lib.ListN.{length}
@@ -11,8 +11,10 @@ use Rattle.pieces.specs.Lines.{kept}
 use Rattle.pieces.specs.Cut.{heldOf}
 use Rattle.pieces.proofs.Carried.{held-le, held-take}
 use Rattle.runner.specs.declared.Said.{Said}
-use Rattle.runner.specs.Run.{answerOf}
+use Rattle.runner.specs.Said.{textOf}
+use Rattle.runner.specs.Run.{replyOf, answerOf}
 use Rattle.runner.specs.Fed.{finishOf}
+use Rattle.runner.proofs.Steps.{said-small}
 use Rattle.runner.proofs.finish.Statement.{statement}
 use Rattle.runner.proofs.finish.Tie as tie
 
@@ -34,25 +36,29 @@ slice-aggregate-answer c = sym (length-take-le _ _ (fits (c .before)))
 answer-requires : tie.Need-answer-requires
 answer-requires c κs = search needs
 
+text-requires : tie.Need-text-requires
+text-requires c κs = subst (λ (x : Said). x .reply .refusal < 10) (sym (c .before .answer .ensures)) (said-small _ _)
+
 -- the answer to what is carried
-said : (c : tie.After-answer) → c .answer .result .text ≡ answerOf (c .before .before .before .before .before .before .args .r .state) (heldOf (c .before .before .before .before .before .before .args .r .finder))
-unfolding answerOf
+said : (c : tie.After-text) → c .text .result ≡ answerOf (c .before .before .before .before .before .before .before .before .args .r .state) (heldOf (c .before .before .before .before .before .before .before .before .args .r .finder))
+unfolding answerOf replyOf
 said c =
-    let h = c .before .before .before in
-    let a = h .before .before .before .args in
-    ap (λ (x : Said). x .text) (c .answer .ensures) ∙ ap (answerOf (a .r .state)) (held-take (a .r .finder) (h .held .result) (h .held .ensures))
+    let a = c .before .before in
+    let h = a .before .before .before in
+    let s = h .before .before .before .args in
+    c .text .ensures ∙ (ap (λ (x : Said). textOf (x .reply)) (a .answer .ensures) ∙ ap (answerOf (s .r .state)) (held-take (s .r .finder) (h .held .result) (h .held .ensures)))
 
 returns : tie.Need-returns
 unfolding finishOf IF_THEN_ELSE_
 returns c =
-    let h = c .before .before .before .before .before in
-    rw (said (c .before .before), eq-eqb _ 0 (sym (h .held .ensures) ∙ c .if1 .taken))
+    let h = c .before .before .before .before .before .before in
+    rw (said (c .before), eq-eqb _ 0 (sym (h .held .ensures) ∙ c .if1 .taken))
 
 returns-2 : tie.Need-returns-2
 unfolding finishOf IF_THEN_ELSE_
 returns-2 c =
-    let h = c .before .before .before .before .before in
-    rw (said (c .before .before), ne-eqb _ 0 (λ z. c .if1 .left (h .held .ensures ∙ z)))
+    let h = c .before .before .before .before .before .before in
+    rw (said (c .before), ne-eqb _ 0 (λ z. c .if1 .left (h .held .ensures ∙ z)))
 
 pub finish-spec : {M : Type 1} → statement M
-finish-spec = tie.close (tie.spec held-requires array-share-prefix-line slice-aggregate-answer answer-requires returns returns-2)
+finish-spec = tie.close (tie.spec held-requires array-share-prefix-line slice-aggregate-answer answer-requires text-requires returns returns-2)

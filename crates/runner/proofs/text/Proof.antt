@@ -10,12 +10,12 @@ flag-requires c κs = search needs
 flag-requires-2 : tie.Need-flag-requires-2
 flag-requires-2 c κs = search needs
 
-add-t6 : tie.Need-add-t6
-add-t6 c = search needs
+add-t4 : tie.Need-add-t4
+add-t4 c = search needs
 
 returns : tie.Need-returns
 unfolding textOf
-returns c = rw (c .before .flag .ensures, c .flag2 .ensures)
+returns c = rw (c .before .before .flag .ensures, c .before .flag2 .ensures)
 
 pub text-spec : {M : Type 1} → statement M
-text-spec = tie.close (tie.spec flag-requires flag-requires-2 add-t6 returns)
+text-spec = tie.close (tie.spec flag-requires flag-requires-2 add-t4 returns)

@@ -1,0 +1,4 @@
+pub mod Adds
+pub mod Limit
+pub mod Reports
+pub mod Calls

@@ -1,0 +1,5 @@
+pub mod Counts
+pub mod Report
+pub mod Fed
+pub mod Asked
+pub mod Worked
