@@ -1,6 +1,6 @@
 -- A choice by its test, the test of equality, and the test of a range. Assumes nothing.
 use mathlib.Core.Path.{_≡_, refl, sym, subst}
-use mathlib.Core.Bool.{Bool, true, false, not, _&&_}
+use mathlib.Core.Bool.{Bool, true, false, not, _&&_, _||_}
 use native.Mathlib.Omega.{arith}
 use lib.Dec.{T}
 use lib.IntN.{ℤ}
@@ -19,6 +19,21 @@ and-right false b e = absurd (subst T (sym e) tt)
 
 pub both : {a b : Bool} → a ≡ true → b ≡ true → a && b ≡ true
 both p q = rw p q
+
+-- ---- one of two tests
+pub or-left : (a b : Bool) → (a || b) ≡ false → a ≡ false
+or-left true b e = e
+or-left false b e = refl
+
+pub or-right : (a b : Bool) → (a || b) ≡ false → b ≡ false
+or-right true b e = absurd (subst T e tt)
+or-right false b e = e
+
+-- the second adds nothing where it implies the first
+pub or-same : (a b : Bool) → (b ≡ true → a ≡ true) → (a || b) ≡ a
+or-same true b h = refl
+or-same false true h = sym (h refl)
+or-same false false h = refl
 
 -- ---- a test turned round
 pub not-true : {a : Bool} → not a ≡ true → a ≡ false

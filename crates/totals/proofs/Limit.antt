@@ -1,6 +1,6 @@
 -- Lines counted one after the other, from the answers counted so far: as many as can be, and 7 with the first that can't. Assumes nothing.
 use mathlib.Core.Path.{_≡_, refl, sym, ap, _∙_}
-use mathlib.Core.Bool.{Bool, true, false, _||_}
+use mathlib.Core.Bool.{true, false}
 use mathlib.Core.List.{List, [], _∷_, _++_, append-assoc, append-nil}
 use Prim.Native.Nat.{ℕ, _+_, _<_, _≤_}
 use native.Mathlib.Omega.{arith}
@@ -9,7 +9,7 @@ use lib.Dec.{leb}
 use lib.ListN.{length, take, length-append}
 use lib.Seq.{take-all, take-at}
 use Rattle.rows.specs.Choice.{IF_THEN_ELSE_}
-use Rattle.rows.proofs.Choice.{either}
+use Rattle.rows.proofs.Choice.{or-left, or-right, or-same, either}
 use Rattle.state.specs.declared.State.{State}
 use Rattle.state.specs.Valid.{resetOf}
 use Rattle.pieces.specs.Lines.{linesOf}
@@ -38,15 +38,6 @@ module _ (c : Counted) (r : Reply) where
   more h f = rw (eq-eqb (c .refusal) 0 h, f)
 
 -- where a line more is counted, each number can rise
-or-left : (a b : Bool) → (a || b) ≡ false → a ≡ false
-or-left true b e = e
-or-left false b e = refl
-
-or-right : (a b : Bool) → (a || b) ≡ false → b ≡ false
-or-right true true e = e
-or-right true false e = refl
-or-right false b e = e
-
 pub room : (t : Totals) → fullOf t ≡ false → (t .accepted + t .refused < limit) × (t .speech + t .held + t .quiet < limit)
 unfolding fullOf
 room t f =
@@ -55,17 +46,12 @@ room t f =
     (leb-false limit (t .accepted + t .refused) (or-left a b f), leb-false limit (t .speech + t .held + t .quiet) (or-right a b f))
 
 -- the totals of a list are full exactly if it is as long as can be
-absorbed : (a b : Bool) → (b ≡ true → a ≡ true) → (a || b) ≡ a
-absorbed true b h = refl
-absorbed false true h = sym (h refl)
-absorbed false false h = refl
-
 full-lines : (rs : List Reply) → fullOf (totalsOf rs) ≡ leb limit (length rs)
 unfolding fullOf totalsOf
 full-lines rs =
     let e = two-add rs in
     rw (two-add rs, three-add rs)
-    (absorbed (leb limit (length rs)) (leb limit (countOf isAccepted rs)) (λ t. let h = leb-true limit (countOf isAccepted rs) t in le-leb limit (length rs) (omega arith)))
+    (or-same (leb limit (length rs)) (leb limit (countOf isAccepted rs)) (λ t. let h = leb-true limit (countOf isAccepted rs) t in le-leb limit (length rs) (omega arith)))
 
 -- ---- one line
 module _ (t : Tally) (l : List ℕ) (c : Counted) (e : c ≡ countedOf (t .counted) (replyOf (t .state) l)) where

@@ -1,7 +1,7 @@
 -- A night whose trace comes in pieces: the answers are counted one after the other, and what is unfinished is carried from piece to piece. Once a
 -- line is refused with 7, nothing changes any more. `called` in `proofs/Calls.antt` shows that the end gives `nightOf` of the whole trace, however
 -- it is cut. Assumes nothing.
-use mathlib.Core.Bool.{Bool, _||_}
+use mathlib.Core.Bool.{Bool, not, _||_}
 use mathlib.Core.List.{List, [], _∷_}
 use Prim.Native.Nat.{ℕ, _+_}
 use lib.Dec.{eqb, leb}
@@ -20,7 +20,8 @@ use Rattle.totals.specs.Counts.{totalsOf, limit}
 
 -- ---- one answer more, with the totals so far
 
--- whether no line more is counted: as many lines were. Totals that no trace gives are full, too, where their three parts together are so many.
+-- whether no line more is counted: the lines so far, accepted and refused, are as many as can be, or, in totals that no trace gives, the three kinds
+-- of frames are
 unfoldable pub fullOf : Totals → Bool
 fullOf t = leb limit (t .accepted + t .refused) || leb limit (t .speech + t .held + t .quiet)
 
@@ -35,10 +36,12 @@ plusOf t u =
       refused = t .refused + u .refused;
     }
 
+-- what was refused stays
 unfoldable pub countedOf : Counted → Reply → Counted
 countedOf c r =
-    IF eqb (c .refusal) 0 THEN (IF fullOf (c .totals) THEN record { refusal = 7; totals = c .totals } ELSE record { refusal = 0; totals = plusOf (c .totals) (totalsOf (r ∷ [])) })
-    ELSE c
+    IF not (eqb (c .refusal) 0) THEN c
+    ELSE IF fullOf (c .totals) THEN record { refusal = 7; totals = c .totals }
+    ELSE record { refusal = 0; totals = plusOf (c .totals) (totalsOf (r ∷ [])) }
 
 -- ---- lines one after the other
 
