@@ -48,14 +48,14 @@ fn none() -> Input
     }
 }
 
-// Opens the file that the program's word `i` names.
+// Opens the file that the program's word `i` names. A word that is too long for a name is named by its first bytes.
 pub fn named(i: usize) -> Input
     ensures { λ r. ⌜ Counts (r .length) (r .name) ⌝ }
 {
     let mut name = io::buffer();
     let length = os::arg(i, &mut name);
     if os::errno() != 0 {
-        os::fail(b"the file's name");
+        os::fail(&name);
         return none();
     }
     let fd = os::open_read(&name[..length]);

@@ -10,23 +10,23 @@ use Rattle.rows.specs.Choice.{IF_THEN_ELSE_}
 use Rattle.rows.proofs.Choice.{either}
 use Rattle.runner.specs.declared.Reply.{Reply}
 use Rattle.totals.specs.declared.Totals.{Totals}
-use Rattle.totals.specs.Counts.{isAccepted, isSpeech, isHeld, isQuiet, isRefused, countOf, totalsOf}
+use Rattle.totals.specs.Counts.{isAccepted, isSpeech, isHeld, isQuiet, isRefused, howMany, totalsOf}
 use Rattle.totals.specs.Fed.{plusOf}
 
 -- what one answer adds
 unfoldable one : Bool → ℕ
 one b = IF b THEN 1 ELSE 0
 
-count-next : (test : Reply → Bool) (r : Reply) (rs : List Reply) → countOf test (r ∷ rs) ≡ one (test r) + countOf test rs
-unfolding countOf one IF_THEN_ELSE_
-count-next test r rs = go (test r) (countOf test rs)
+count-next : (test : Reply → Bool) (r : Reply) (rs : List Reply) → howMany test (r ∷ rs) ≡ one (test r) + howMany test rs
+unfolding howMany one IF_THEN_ELSE_
+count-next test r rs = go (test r) (howMany test rs)
   where
     go : (b : Bool) (n : ℕ) → (IF b THEN suc n ELSE n) ≡ (IF b THEN 1 ELSE 0) + n
     go true n = omega arith
     go false n = omega arith
 
-count-append : (test : Reply → Bool) (a b : List Reply) → countOf test (a ++ b) ≡ countOf test a + countOf test b
-unfolding countOf
+count-append : (test : Reply → Bool) (a b : List Reply) → howMany test (a ++ b) ≡ howMany test a + howMany test b
+unfolding howMany
 count-append test [] b = omega arith
 count-append test (r ∷ a) b =
     let x = count-next test r (a ++ b) in
@@ -60,8 +60,8 @@ two-kinds r = go (isAccepted r)
     go false = refl
 
 -- ---- the middle three add up to the first, and the first and the last to the lines
-pub three-add : (rs : List Reply) → countOf isSpeech rs + countOf isHeld rs + countOf isQuiet rs ≡ countOf isAccepted rs
-unfolding countOf
+pub three-add : (rs : List Reply) → howMany isSpeech rs + howMany isHeld rs + howMany isQuiet rs ≡ howMany isAccepted rs
+unfolding howMany
 three-add [] = refl
 three-add (r ∷ rs) =
     let a = count-next isSpeech r rs in
@@ -72,8 +72,8 @@ three-add (r ∷ rs) =
     let h = three-add rs in
     omega arith
 
-pub two-add : (rs : List Reply) → countOf isAccepted rs + countOf isRefused rs ≡ length rs
-unfolding countOf
+pub two-add : (rs : List Reply) → howMany isAccepted rs + howMany isRefused rs ≡ length rs
+unfolding howMany
 two-add [] = refl
 two-add (r ∷ rs) =
     let a = count-next isAccepted r rs in
@@ -89,13 +89,13 @@ none n = omega arith
 module _ (t : Totals) (r : Reply) where
   pub plus-refused : (r .refusal ≡ 0 → ⊥)
       → record { accepted = t .accepted; speech = t .speech; held = t .held; quiet = t .quiet; refused = t .refused + 1 } ≡ plusOf t (totalsOf (r ∷ []))
-  unfolding isAccepted isSpeech isHeld isQuiet isRefused countOf totalsOf plusOf IF_THEN_ELSE_
+  unfolding isAccepted isSpeech isHeld isQuiet isRefused howMany totalsOf plusOf IF_THEN_ELSE_
   plus-refused h = rw (ne-eqb (r .refusal) 0 h, none (t .accepted), none (t .speech), none (t .held), none (t .quiet))
 
   module _ (a : r .refusal ≡ 0) where
     pub plus-speech : r .vvad ≡ true
         → record { accepted = t .accepted + 1; speech = t .speech + 1; held = t .held; quiet = t .quiet; refused = t .refused } ≡ plusOf t (totalsOf (r ∷ []))
-    unfolding isAccepted isSpeech isHeld isQuiet isRefused countOf totalsOf plusOf IF_THEN_ELSE_
+    unfolding isAccepted isSpeech isHeld isQuiet isRefused howMany totalsOf plusOf IF_THEN_ELSE_
     plus-speech v =
         either (record { accepted = t .accepted + 1; speech = t .speech + 1; held = t .held; quiet = t .quiet; refused = t .refused } ≡ plusOf t (totalsOf (r ∷ []))) (r .vad)
         (λ w. rw (eq-eqb (r .refusal) 0 a, v, w, none (t .held), none (t .quiet), none (t .refused)))
@@ -103,10 +103,10 @@ module _ (t : Totals) (r : Reply) where
 
     pub plus-held : r .vvad ≡ false → r .vad ≡ true
         → record { accepted = t .accepted + 1; speech = t .speech; held = t .held + 1; quiet = t .quiet; refused = t .refused } ≡ plusOf t (totalsOf (r ∷ []))
-    unfolding isAccepted isSpeech isHeld isQuiet isRefused countOf totalsOf plusOf IF_THEN_ELSE_
+    unfolding isAccepted isSpeech isHeld isQuiet isRefused howMany totalsOf plusOf IF_THEN_ELSE_
     plus-held v w = rw (eq-eqb (r .refusal) 0 a, v, w, none (t .speech), none (t .quiet), none (t .refused))
 
     pub plus-quiet : r .vvad ≡ false → r .vad ≡ false
         → record { accepted = t .accepted + 1; speech = t .speech; held = t .held; quiet = t .quiet + 1; refused = t .refused } ≡ plusOf t (totalsOf (r ∷ []))
-    unfolding isAccepted isSpeech isHeld isQuiet isRefused countOf totalsOf plusOf IF_THEN_ELSE_
+    unfolding isAccepted isSpeech isHeld isQuiet isRefused howMany totalsOf plusOf IF_THEN_ELSE_
     plus-quiet v w = rw (eq-eqb (r .refusal) 0 a, v, w, none (t .speech), none (t .held), none (t .refused))

@@ -24,14 +24,14 @@ use Rattle.totals.specs.declared.Counted.{Counted}
 use Rattle.totals.specs.declared.Tally.{Tally}
 use Rattle.totals.specs.declared.Night.{Night}
 use Rattle.totals.specs.Counts.{totalsOf, limit, nightOf}
-use Rattle.totals.specs.Fed.{countedOf, talliedOf, ranOf, startOf, fedOf, finishOf, callsFrom}
+use Rattle.totals.specs.Fed.{countOf, talliedOf, ranOf, startOf, fedOf, finishOf, callsFrom}
 use Rattle.totals.specs.Asked.{comesTo, countedReplies, Asked}
 use Rattle.totals.proofs.Adds.{three-add, two-add}
 use Rattle.totals.proofs.Limit.{stays, night-is}
 
 -- of a line the first 85 bytes are enough
 abbrev after : Tally → Said → Tally
-after t x = let c = countedOf (t .counted) (x .reply) in record { counted = c; state = IF eqb (c .refusal) 0 THEN x .next ELSE t .state }
+after t x = let c = countOf (t .counted) (x .reply) in record { counted = c; state = IF eqb (c .refusal) 0 THEN x .next ELSE t .state }
 
 tallied-short : (t : Tally) (l : List ℕ) → talliedOf t (short l) ≡ talliedOf t l
 unfolding talliedOf replyOf nextOf

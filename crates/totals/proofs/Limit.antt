@@ -19,22 +19,22 @@ use Rattle.runner.specs.Run.{nextOf, replyOf, repliesFrom, repliesOf}
 use Rattle.totals.specs.declared.Totals.{Totals}
 use Rattle.totals.specs.declared.Counted.{Counted}
 use Rattle.totals.specs.declared.Tally.{Tally}
-use Rattle.totals.specs.Counts.{isAccepted, countOf, totalsOf, limit, nightOf}
-use Rattle.totals.specs.Fed.{fullOf, plusOf, countedOf, talliedOf, ranOf, startOf}
+use Rattle.totals.specs.Counts.{isAccepted, howMany, totalsOf, limit, nightOf}
+use Rattle.totals.specs.Fed.{fullOf, plusOf, countOf, talliedOf, ranOf, startOf}
 use Rattle.totals.proofs.Adds.{totals-append, three-add, two-add}
 
 -- ---- one answer
 module _ (c : Counted) (r : Reply) where
-  pub kept : (c .refusal ≡ 0 → ⊥) → countedOf c r ≡ c
-  unfolding countedOf IF_THEN_ELSE_
+  pub kept : (c .refusal ≡ 0 → ⊥) → countOf c r ≡ c
+  unfolding countOf IF_THEN_ELSE_
   kept h = rw (ne-eqb (c .refusal) 0 h)
 
-  pub over : c .refusal ≡ 0 → fullOf (c .totals) ≡ true → countedOf c r ≡ record { refusal = 7; totals = c .totals }
-  unfolding countedOf IF_THEN_ELSE_
+  pub over : c .refusal ≡ 0 → fullOf (c .totals) ≡ true → countOf c r ≡ record { refusal = 7; totals = c .totals }
+  unfolding countOf IF_THEN_ELSE_
   over h f = rw (eq-eqb (c .refusal) 0 h, f)
 
-  pub more : c .refusal ≡ 0 → fullOf (c .totals) ≡ false → countedOf c r ≡ record { refusal = 0; totals = plusOf (c .totals) (totalsOf (r ∷ [])) }
-  unfolding countedOf IF_THEN_ELSE_
+  pub more : c .refusal ≡ 0 → fullOf (c .totals) ≡ false → countOf c r ≡ record { refusal = 0; totals = plusOf (c .totals) (totalsOf (r ∷ [])) }
+  unfolding countOf IF_THEN_ELSE_
   more h f = rw (eq-eqb (c .refusal) 0 h, f)
 
 -- where a line more is counted, each number can rise
@@ -51,10 +51,10 @@ unfolding fullOf totalsOf
 full-lines rs =
     let e = two-add rs in
     rw (two-add rs, three-add rs)
-    (or-same (leb limit (length rs)) (leb limit (countOf isAccepted rs)) (λ t. let h = leb-true limit (countOf isAccepted rs) t in le-leb limit (length rs) (omega arith)))
+    (or-same (leb limit (length rs)) (leb limit (howMany isAccepted rs)) (λ t. let h = leb-true limit (howMany isAccepted rs) t in le-leb limit (length rs) (omega arith)))
 
 -- ---- one line
-module _ (t : Tally) (l : List ℕ) (c : Counted) (e : c ≡ countedOf (t .counted) (replyOf (t .state) l)) where
+module _ (t : Tally) (l : List ℕ) (c : Counted) (e : c ≡ countOf (t .counted) (replyOf (t .state) l)) where
   pub tallied-no : (c .refusal ≡ 0 → ⊥) → record { counted = c; state = t .state } ≡ talliedOf t l
   unfolding talliedOf IF_THEN_ELSE_
   tallied-no h = rw (sym e, ne-eqb (c .refusal) 0 h)

@@ -9,7 +9,7 @@ use Rattle.pieces.specs.Pieces.{flat}
 use Rattle.runner.specs.declared.Reply.{Reply}
 use Rattle.runner.specs.Run.{repliesOf}
 use Rattle.totals.specs.declared.Counted.{Counted}
-use Rattle.totals.specs.Counts.{isAccepted, isSpeech, isHeld, isQuiet, isRefused, countOf, limit}
+use Rattle.totals.specs.Counts.{isAccepted, isSpeech, isHeld, isQuiet, isRefused, howMany, limit}
 use Rattle.totals.specs.Fed.{startOf, callsFrom}
 
 -- what the pieces of a trace come to, by the promises
@@ -22,11 +22,11 @@ countedReplies pieces = take limit (repliesOf (flat pieces))
 
 pub record Asked (pieces : List (List ℕ)) : Type 0 where
   -- each number is the count
-  pub accepted : comesTo pieces .totals .accepted ≡ countOf isAccepted (countedReplies pieces)
-  pub speech : comesTo pieces .totals .speech ≡ countOf isSpeech (countedReplies pieces)
-  pub held : comesTo pieces .totals .held ≡ countOf isHeld (countedReplies pieces)
-  pub quiet : comesTo pieces .totals .quiet ≡ countOf isQuiet (countedReplies pieces)
-  pub refused : comesTo pieces .totals .refused ≡ countOf isRefused (countedReplies pieces)
+  pub accepted : comesTo pieces .totals .accepted ≡ howMany isAccepted (countedReplies pieces)
+  pub speech : comesTo pieces .totals .speech ≡ howMany isSpeech (countedReplies pieces)
+  pub held : comesTo pieces .totals .held ≡ howMany isHeld (countedReplies pieces)
+  pub quiet : comesTo pieces .totals .quiet ≡ howMany isQuiet (countedReplies pieces)
+  pub refused : comesTo pieces .totals .refused ≡ howMany isRefused (countedReplies pieces)
   -- the middle three add up to the first, and the first and the last to the lines that are counted
   pub three : comesTo pieces .totals .speech + comesTo pieces .totals .held + comesTo pieces .totals .quiet ≡ comesTo pieces .totals .accepted
   pub lines : comesTo pieces .totals .accepted + comesTo pieces .totals .refused ≡ min limit (length (linesOf (flat pieces)))

@@ -36,18 +36,18 @@ isRefused r = not (isAccepted r)
 -- ---- how many there are
 
 -- of how many answers a test holds
-unfoldable pub countOf : (Reply → Bool) → List Reply → ℕ
-countOf test [] = 0
-countOf test (r ∷ rs) = IF test r THEN suc (countOf test rs) ELSE countOf test rs
+unfoldable pub howMany : (Reply → Bool) → List Reply → ℕ
+howMany test [] = 0
+howMany test (r ∷ rs) = IF test r THEN suc (howMany test rs) ELSE howMany test rs
 
 unfoldable pub totalsOf : List Reply → Totals
 totalsOf rs =
     record {
-      accepted = countOf isAccepted rs;
-      speech = countOf isSpeech rs;
-      held = countOf isHeld rs;
-      quiet = countOf isQuiet rs;
-      refused = countOf isRefused rs;
+      accepted = howMany isAccepted rs;
+      speech = howMany isSpeech rs;
+      held = howMany isHeld rs;
+      quiet = howMany isQuiet rs;
+      refused = howMany isRefused rs;
     }
 
 -- the most lines that are counted

@@ -1,5 +1,5 @@
 -- A night whose trace comes in pieces: the answers are counted one after the other, and what is unfinished is carried from piece to piece. Once a
--- line is refused with 7, nothing changes any more. `called` in `proofs/Calls.antt` shows that the end gives `nightOf` of the whole trace, however
+-- line is refused with 7, the totals and the detector stay. `called` in `proofs/Calls.antt` shows that the end gives `nightOf` of the whole trace, however
 -- it is cut. Assumes nothing.
 use mathlib.Core.Bool.{Bool, not, _||_}
 use mathlib.Core.List.{List, [], _∷_}
@@ -37,8 +37,8 @@ plusOf t u =
     }
 
 -- what was refused stays
-unfoldable pub countedOf : Counted → Reply → Counted
-countedOf c r =
+unfoldable pub countOf : Counted → Reply → Counted
+countOf c r =
     IF not (eqb (c .refusal) 0) THEN c
     ELSE IF fullOf (c .totals) THEN record { refusal = 7; totals = c .totals }
     ELSE record { refusal = 0; totals = plusOf (c .totals) (totalsOf (r ∷ [])) }
@@ -48,7 +48,7 @@ countedOf c r =
 -- a line is answered, and its answer counted; where it is not, the detector stays as it was
 unfoldable pub talliedOf : Tally → List ℕ → Tally
 talliedOf t l =
-    let c = countedOf (t .counted) (replyOf (t .state) l) in
+    let c = countOf (t .counted) (replyOf (t .state) l) in
     record { counted = c; state = IF eqb (c .refusal) 0 THEN nextOf (t .state) l ELSE t .state }
 
 unfoldable pub ranOf : Tally → List (List ℕ) → Tally

@@ -4,6 +4,7 @@ use mathlib.Core.List.{List, [], _∷_, _++_}
 use Prim.Native.Nat.{ℕ}
 use Rattle.lines.specs.Hex.{blocksOf}
 use Rattle.totals.specs.declared.Totals.{Totals}
+use Rattle.totals.specs.Counts.{nightOf}
 
 -- in the order of the report
 unfoldable pub numbersOf : Totals → List ℕ
@@ -11,3 +12,7 @@ numbersOf t = t .accepted ∷ t .speech ∷ t .held ∷ t .quiet ∷ t .refused 
 
 unfoldable pub reportOf : Totals → List ℕ
 reportOf t = blocksOf 8 (numbersOf t) ++ (10 ∷ [])
+
+-- the line of a whole trace
+unfoldable pub nightLine : List ℕ → List ℕ
+nightLine input = reportOf (nightOf input .totals)

@@ -13,13 +13,13 @@ use Rattle.runner.specs.declared.Reply.{Reply}
 use Rattle.runner.specs.Run.{repliesFrom, repliesOf}
 use Rattle.totals.specs.declared.Totals.{Totals}
 use Rattle.totals.specs.declared.Counted.{Counted}
-use Rattle.totals.specs.Counts.{isAccepted, isSpeech, isHeld, isQuiet, isRefused, countOf, totalsOf, nightOf}
-use Rattle.totals.specs.Report.{numbersOf, reportOf}
-use Rattle.totals.specs.Fed.{fullOf, plusOf, countedOf}
+use Rattle.totals.specs.Counts.{isAccepted, isSpeech, isHeld, isQuiet, isRefused, howMany, totalsOf, nightOf}
+use Rattle.totals.specs.Report.{numbersOf, reportOf, nightLine}
+use Rattle.totals.specs.Fed.{fullOf, plusOf, countOf}
 
 -- nothing in
-pub nothing : reportOf (nightOf [] .totals) ≡ replicate 40 48 ++ (10 ∷ [])
-unfolding linesOf repliesFrom repliesOf countOf totalsOf nightOf IF_THEN_ELSE_ digitOf digitsOf blocksOf numbersOf reportOf
+pub nothing : nightLine [] ≡ replicate 40 48 ++ (10 ∷ [])
+unfolding linesOf repliesFrom repliesOf howMany totalsOf nightOf IF_THEN_ELSE_ digitOf digitsOf blocksOf numbersOf reportOf nightLine
 nothing = refl
 
 -- an answer of each kind
@@ -39,26 +39,26 @@ abbrev totals : ℕ → ℕ → ℕ → ℕ → ℕ → Totals
 totals a b c d e = record { accepted = a; speech = b; held = c; quiet = d; refused = e }
 
 pub kinds : totalsOf (speech ∷ speech ∷ speech ∷ held ∷ held ∷ quiet ∷ refused ∷ []) ≡ totals 6 3 2 1 1
-unfolding isAccepted isSpeech isHeld isQuiet isRefused countOf totalsOf IF_THEN_ELSE_
+unfolding isAccepted isSpeech isHeld isQuiet isRefused howMany totalsOf IF_THEN_ELSE_
 kinds = refl
 
 -- one line short of the most
 abbrev short : Counted
 short = record { refusal = 0; totals = totals 4294967290 3 2 4294967285 4 }
 
-pub last-counted : countedOf short speech ≡ record { refusal = 0; totals = totals 4294967291 4 2 4294967285 4 }
-unfolding isAccepted isSpeech isHeld isQuiet isRefused countOf totalsOf fullOf plusOf countedOf IF_THEN_ELSE_
+pub last-counted : countOf short speech ≡ record { refusal = 0; totals = totals 4294967291 4 2 4294967285 4 }
+unfolding isAccepted isSpeech isHeld isQuiet isRefused howMany totalsOf fullOf plusOf countOf IF_THEN_ELSE_
 last-counted = refl
 
-pub one-more : countedOf (countedOf short speech) refused ≡ record { refusal = 7; totals = totals 4294967291 4 2 4294967285 4 }
-unfolding isAccepted isSpeech isHeld isQuiet isRefused countOf totalsOf fullOf plusOf countedOf IF_THEN_ELSE_
+pub one-more : countOf (countOf short speech) refused ≡ record { refusal = 7; totals = totals 4294967291 4 2 4294967285 4 }
+unfolding isAccepted isSpeech isHeld isQuiet isRefused howMany totalsOf fullOf plusOf countOf IF_THEN_ELSE_
 one-more = refl
 
-pub stays : countedOf (countedOf (countedOf short speech) refused) held ≡ record { refusal = 7; totals = totals 4294967291 4 2 4294967285 4 }
-unfolding isAccepted isSpeech isHeld isQuiet isRefused countOf totalsOf fullOf plusOf countedOf IF_THEN_ELSE_
+pub stays : countOf (countOf (countOf short speech) refused) held ≡ record { refusal = 7; totals = totals 4294967291 4 2 4294967285 4 }
+unfolding isAccepted isSpeech isHeld isQuiet isRefused howMany totalsOf fullOf plusOf countOf IF_THEN_ELSE_
 stays = refl
 
 -- totals that no trace gives: more quiet frames than lines
-pub no-trace : countedOf (record { refusal = 0; totals = totals 3 0 0 4294967295 0 }) quiet ≡ record { refusal = 7; totals = totals 3 0 0 4294967295 0 }
-unfolding fullOf countedOf IF_THEN_ELSE_
+pub no-trace : countOf (record { refusal = 0; totals = totals 3 0 0 4294967295 0 }) quiet ≡ record { refusal = 7; totals = totals 3 0 0 4294967295 0 }
+unfolding fullOf countOf IF_THEN_ELSE_
 no-trace = refl

@@ -79,7 +79,7 @@ fn more(t: Totals, r: Reply) -> Totals
 
 // Counts an answer, or gives 7 and the totals as they are; what has been refused stays.
 pub fn count(c: Counted, r: Reply) -> Counted
-    ensures { λ n. ⌜ n ≡ piece.countedOf c r ⌝ }
+    ensures { λ n. ⌜ n ≡ piece.countOf c r ⌝ }
 {
     if c.refusal != 0 {
         return c;

@@ -1,6 +1,6 @@
 -- `totals::start` has counted nothing. Assumes nothing.
 use borrow.Author.Needs.{needs}
-use Rattle.totals.specs.Counts.{countOf, totalsOf}
+use Rattle.totals.specs.Counts.{howMany, totalsOf}
 use Rattle.totals.specs.Fed.{startOf}
 use Rattle.totals.proofs.start.Statement.{statement}
 use Rattle.totals.proofs.start.Tie as tie
@@ -12,7 +12,7 @@ start-requires : tie.Need-start-requires
 start-requires c κs = search needs
 
 returns : tie.Need-returns
-unfolding countOf totalsOf startOf
+unfolding howMany totalsOf startOf
 returns c = rw (c .start .ensures, c .before .reset .ensures)
 
 pub start-spec : {M : Type 1} → statement M

@@ -7,7 +7,7 @@ use Rattle.runner.specs.declared.Said.{Said}
 use Rattle.runner.specs.Run.{nextOf, replyOf}
 use Rattle.totals.specs.declared.Counted.{Counted}
 use Rattle.totals.specs.declared.Tally.{Tally}
-use Rattle.totals.specs.Fed.{countedOf}
+use Rattle.totals.specs.Fed.{countOf}
 use Rattle.totals.proofs.Limit.{tallied-no, tallied-yes}
 use Rattle.totals.proofs.tallied.Statement.{statement}
 use Rattle.totals.proofs.tallied.Tie as tie
@@ -21,9 +21,9 @@ count-requires c κs = search needs
 abbrev start : tie.After-count → tie.Start
 start c = c .before .before .before .before .before .before
 
-counted : (c : tie.After-count) → c .count .result ≡ countedOf (start c .args .t .counted) (replyOf (start c .args .t .state) (start c .args .line .now))
+counted : (c : tie.After-count) → c .count .result ≡ countOf (start c .args .t .counted) (replyOf (start c .args .t .state) (start c .args .line .now))
 unfolding replyOf
-counted c = c .count .ensures ∙ ap (λ (x : Said). countedOf (start c .args .t .counted) (x .reply)) (c .before .before .before .answer .ensures)
+counted c = c .count .ensures ∙ ap (λ (x : Said). countOf (start c .args .t .counted) (x .reply)) (c .before .before .before .answer .ensures)
 
 returns : tie.Need-returns
 returns c = tallied-no _ _ _ (counted (c .before .before)) (c .if1 .taken)
