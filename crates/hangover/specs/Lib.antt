@@ -1,1 +1,2 @@
 pub mod Hangover
+pub mod Bursts

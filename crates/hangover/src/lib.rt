@@ -4,7 +4,7 @@ ghost use Rattle.hangover.specs.Hangover.{hangoverOf, burstOf, runDownOf
 use operations::add;
 use operations::sub;
 
-const BURSTCONST: i16 = 3;
+pub const BURSTCONST: i16 = 3;
 
 const HANGCONST: i16 = 5;
 
