@@ -1,1 +1,2 @@
 pub mod Threshold
+pub mod Ways

@@ -1,6 +1,7 @@
 // Clause 6.6: the threshold, and the filter that is learned with it.
 ghost use mathlib.Core.Path.{_≡_};
 ghost use Rattle.threshold.specs.Threshold as clause;
+ghost use Rattle.threshold.specs.Ways.{wayTaken};
 use operations::add;
 use operations::l_add;
 use operations::l_shr;
@@ -29,6 +30,15 @@ pub struct Kept {
     pub adaptcount: i16,
     pub rvad: [i16; 9],
     pub normrvad: i16,
+}
+
+// The ways through the clause: out at the level, at ptch, at a spectrum that moves, with the count up to 8, or through to the end.
+pub enum Way {
+    Floor,
+    Periodic,
+    Unsteady,
+    Waiting(i16),
+    Adapted,
 }
 
 // A mantissa that has grown past 15 bits is halved.
@@ -159,4 +169,25 @@ pub fn adapt(
         rvad: rav1,
         normrvad: normrav1,
     }
+}
+
+// Which way a frame goes through the clause, with adaptcount as the frame before left it.
+pub fn way_taken(acf0: Pair, ptch: bool, stat: bool, adaptcount: i16) -> Way
+    ensures { λ r. ⌜ r ≡ wayTaken acf0 ptch stat adaptcount ⌝ }
+{
+    let floor = Pair { e: E_PTH, m: M_PTH };
+    if greater(floor, acf0) {
+        return Way::Floor;
+    }
+    if ptch {
+        return Way::Periodic;
+    }
+    if !stat {
+        return Way::Unsteady;
+    }
+    let risen = add(adaptcount, 1);
+    if risen <= 8 {
+        return Way::Waiting(risen);
+    }
+    Way::Adapted
 }
