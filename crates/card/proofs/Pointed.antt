@@ -1,11 +1,9 @@
 -- The pointers of the state after an accepted frame are of 0..27, so that a run can hold them. Assumes nothing.
-use mathlib.Core.Path.{_≡_, refl, sym, _∙_, subst}
+use mathlib.Core.Path.{_≡_, refl, sym, subst}
 use mathlib.Core.List.{List}
 use Prim.Native.Nat.{ℕ, _%_, _≤_}
 use native.Mathlib.Omega.{arith}
 use lib.IntN.{ℤ, pos}
-use lib.Dec.{eqb}
-use borrow.Author.Tests.{eqb-true, eqb-false}
 use Rattle.numbers.specs.Sum.{at}
 use Rattle.rows.specs.Choice.{IF_THEN_ELSE_, eqZ}
 use Rattle.rows.proofs.Choice.{either}
@@ -16,7 +14,7 @@ use Rattle.state.specs.Valid.{Valid}
 use Rattle.detector.specs.declared.Answer.{Answer}
 use Rattle.detector.specs.Refusal.{refusalOf}
 use Rattle.detector.specs.Step.{spectralOf, unmovedOf, movedOf, acceptedOf, stepOf}
-use Rattle.detector.proofs.Table.{step-accepted, refused-answer}
+use Rattle.detector.proofs.Table.{step-accepted}
 use Rattle.detector.proofs.Keeps.{accepted}
 
 next-le : (last pt : ℕ) → last % 9 ≡ 0 → pt ≤ last → pt % 9 ≡ 0 → nextOf last (inside last pt) ≤ last
@@ -34,9 +32,3 @@ unfolding acceptedOf
 next-in L-ACF lags scalvad s e =
     subst (λ (r : Answer). (r .next .ptsacf ≤ 27) × (r .next .ptsav0 ≤ 27)) (sym (step-accepted L-ACF lags scalvad s e))
     (moved-in L-ACF scalvad s (accepted L-ACF lags scalvad s e .state))
-
--- an answer with number 0 is that of a frame that is not refused
-pub accepted-0 : (L-ACF : List ℤ) (lags : List ℕ) (scalvad : ℤ) (s : State) → stepOf L-ACF lags scalvad s .refusal ≡ 0 → refusalOf L-ACF lags scalvad s ≡ 0
-accepted-0 L-ACF lags scalvad s e =
-    either (refusalOf L-ACF lags scalvad s ≡ 0) (eqb (refusalOf L-ACF lags scalvad s) 0) (eqb-true (refusalOf L-ACF lags scalvad s) 0)
-    (λ t. sym (refused-answer L-ACF lags scalvad s (eqb-false (refusalOf L-ACF lags scalvad s) 0 t) .numbered) ∙ e)

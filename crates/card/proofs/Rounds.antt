@@ -22,12 +22,11 @@ use Rattle.state.specs.Valid.{validOf, resetOf, Between, Valid, Shaped}
 use Rattle.state.proofs.Facts.{valid, between-back}
 use Rattle.detector.specs.Refusal.{refusalOf}
 use Rattle.detector.specs.Step.{stepOf}
-use Rattle.detector.proofs.Table.{number-0}
+use Rattle.detector.proofs.Table.{number-0, accepted-0}
 use Rattle.detector.proofs.Keeps.{Numbers, step-keeps}
 use Rattle.card.specs.Run.{part, runOf, stateOf, shortsOf, narrowOf, lengthsOf, stepNumber, stepRun}
 use Rattle.card.proofs.Parted.{spread, part-length}
 use Rattle.card.proofs.Lossless.{sacf-pointer-back, sav0-pointer-back, oldlag-back, state-run}
-use Rattle.card.proofs.Pointed.{accepted-0}
 use Rattle.card.proofs.Answers.{number-1, number-5, number-of, done-run}
 
 abbrev Short : ℤ → Bool

@@ -8,11 +8,8 @@ use native.Mathlib.Omega.{arith}
 use lib.Count.{leadingZeros}
 use lib.Dec.{eqb}
 use lib.IntN.{ℤ, pos}
-use lib.ListN.{replicate}
 use lib.Signed.{leZ}
-use mir.Syntax.{w32}
-use mir.Val.{SFits}
-use Rattle.numbers.specs.Sum.{at, sum, total}
+use Rattle.numbers.specs.Sum.{sum, total}
 use Rattle.numbers.specs.Clamp.{clamp}
 use Rattle.numbers.specs.Floor.{residue}
 use Rattle.numbers.specs.Wrap.{wrap}
@@ -31,7 +28,7 @@ use Rattle.state.specs.Valid.{pointerOk, sacfWithin, sacfOk, sav0Ok, weightOf, 
 use Rattle.detector.specs.declared.Answer.{Answer}
 use Rattle.detector.specs.Refusal.{lengthsOk, scaleOk, acfOk, lagsOk, frameRefusalOf, refusalOf}
 use Rattle.detector.specs.Step.{spectralOf, movedOf, acceptedOf, refusedOf, stepOf}
-use Rattle.detector.proofs.Keeps.{Numbers}
+use Rattle.detector.proofs.Keeps.{Numbers, zeros-fit}
 use Rattle.demands.specs.Demands.{Demand3}
 use Rattle.demands.specs.Distance.{EOf, WOf, aOf, LOf, pOf, distanceOf, energyUnits, distanceUnits, pairUnits}
 use Rattle.demands.specs.Worked.{acf, forty}
@@ -73,7 +70,7 @@ always-quiet f idle e = false≢true (sym (idle _ _ _ _ (ap (λ (r : Answer). r 
 -- a program that says only the one, and is right in all else
 abbrev saying : Bool → Program
 saying t L-ACF lags scalvad s =
-    let r = stepOf L-ACF lags scalvad s in record { refusal = r .refusal; vad = t; vvad = r .vvad; acf0 = r .acf0; pvad = r .pvad; next = r .next }
+    let r = stepOf L-ACF lags scalvad s in record { refusal = r .refusal; vad = t; vvad = r .vvad; stat = r .stat; acf0 = r .acf0; pvad = r .pvad; next = r .next }
 
 pub always-is : (t : Bool) → Says t (saying t)
 always-is t L-ACF lags scalvad s e = refl
@@ -88,11 +85,6 @@ unfolding LOf energyUnits distanceUnits pairUnits distanceOf aOf pOf EOf WOf wei
 decides-speech r t d = d .speech (record { lt = tt }) (rw t (record { lt = tt }))
 
 -- the step's own answers are such answers
-zeros-fit : (n k : ℕ) → SFits w32 (at (replicate n (pos 0)) k)
-zeros-fit zero k = record { sfits = omega arith }
-zeros-fit (suc n) zero = record { sfits = omega arith }
-zeros-fit (suc n) (suc k) = zeros-fit n k
-
 pub numbers : (n : ℕ) → n < 2 ^ 31 → Numbers (acf (pos n) (pos 0))
 numbers n h zero = record { sfits = h }
 numbers n h (suc k) = zeros-fit 8 k
@@ -118,7 +110,7 @@ pub hands-back : HandsBack
 hands-back f idle e = keeps-lagcount f (λ L-ACF lags scalvad s. ap (λ (t : State). t .oldlagcount) (idle L-ACF lags scalvad s)) e
 
 -- it is right in all else; and what keeps the whole state keeps its parts, so that it is one of the two above as well
-pub hands-back-is : Keeps (λ s. s) (λ L-ACF lags scalvad s. let r = stepOf L-ACF lags scalvad s in record { refusal = r .refusal; vad = r .vad; vvad = r .vvad; acf0 = r .acf0; pvad = r .pvad; next = s })
+pub hands-back-is : Keeps (λ s. s) (λ L-ACF lags scalvad s. let r = stepOf L-ACF lags scalvad s in record { refusal = r .refusal; vad = r .vad; vvad = r .vvad; stat = r .stat; acf0 = r .acf0; pvad = r .pvad; next = s })
 hands-back-is L-ACF lags scalvad s = refl
 
 -- ---- 5. repeats its first answer

@@ -1,6 +1,6 @@
 -- The step meets the three demands of specs/Demands.antt on a frame; a reset state is one that they speak of; and a caller has them of what the
 -- function `detector::step` answers. Those on lines are met in Lines.antt. Assumes nothing.
-use mathlib.Core.Path.{_≡_, refl, sym, _∙_, subst}
+use mathlib.Core.Path.{_≡_, sym, _∙_, subst}
 use mathlib.Core.Bool.{true}
 use mathlib.Core.List.{List}
 use Prim.Native.Nat.{ℕ}
@@ -9,11 +9,10 @@ use borrow.Author.Tests.{eqb-true, eqb-false}
 use lib.IntN.{ℤ, pos}
 use lib.Signed.{_≤ℤ_}
 use Rattle.numbers.specs.Sum.{at}
-use Rattle.rows.specs.Rows.{row}
 use Rattle.rows.proofs.Choice.{either}
 use Rattle.state.specs.declared.State.{State}
 use Rattle.state.specs.Valid.{validOf, Shaped, resetOf}
-use Rattle.state.proofs.Facts.{reset-valid}
+use Rattle.state.proofs.Facts.{reset-valid, reset-shaped}
 use Rattle.detector.specs.declared.Answer.{Answer}
 use Rattle.detector.specs.Refusal.{refusalOf}
 use Rattle.detector.specs.Step.{stepOf}
@@ -77,8 +76,7 @@ module _ (L-ACF : List ℤ) (lags : List ℕ) (scalvad : ℤ) (s : State) where
         }
 
 pub reset-meets : (validOf resetOf ≡ true) × Shaped resetOf
-unfolding resetOf row
-reset-meets = (reset-valid, record { rvad = refl; sacf = refl; sav0 = refl })
+reset-meets = (reset-valid, reset-shaped)
 
 -- ---- what a caller has: `r ≡ stepOf ..` is what the function ensures, `Numbers` and `Shaped` what the types of its arguments say by themselves
 pub record Called (L-ACF : List ℤ) (lags : List ℕ) (scalvad : ℤ) (s : State) (r : Answer) : Type 0 where

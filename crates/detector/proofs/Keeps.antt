@@ -9,7 +9,7 @@ use native.Mathlib.Omega.{arith}
 use lib.Dec.{T, ltb, eqb}
 use borrow.Author.Tests.{ltb-true, ltb-false, eqb-true, eqb-false}
 use lib.IntN.{ℤ, natAbs, pos, negsuc}
-use lib.ListN.{length, getD, List·getD-eq-default}
+use lib.ListN.{length, getD, replicate, List·getD-eq-default}
 use lib.Signed.{leZ, _≤ℤ_}
 use mir.Syntax.{w32}
 use mir.Val.{SFits}
@@ -45,6 +45,12 @@ use Rattle.detector.proofs.Table.{number-0, step-accepted, refused-answ
 -- the lent numbers are of 32 bits
 abbrev pub Numbers : List ℤ → Type 0
 Numbers L-ACF = (k : ℕ) → SFits w32 (at L-ACF k)
+
+-- as zeros are
+pub zeros-fit : (n k : ℕ) → SFits w32 (at (replicate n (pos 0)) k)
+zeros-fit zero k = record { sfits = omega arith }
+zeros-fit (suc n) zero = record { sfits = omega arith }
+zeros-fit (suc n) (suc k) = zeros-fit n k
 
 -- ---- what an accepted frame is
 pub record Accepted (L-ACF : List ℤ) (lags : List ℕ) (scalvad : ℤ) (s : State) : Type 0 where

@@ -7,11 +7,11 @@ use mathlib.Core.Logic.{_↔_}
 use Prim.Native.Nat.{ℕ}
 use native.Mathlib.Omega.{arith}
 use lib.Dec.{T, eqb}
-use borrow.Author.Tests.{eq-eqb, ne-eqb, eqb-true}
+use borrow.Author.Tests.{eq-eqb, ne-eqb, eqb-true, eqb-false}
 use lib.IntN.{ℤ, pos}
 use lib.ListN.{length}
 use Rattle.rows.specs.Choice.{IF_THEN_ELSE_}
-use Rattle.rows.proofs.Choice.{and-left, and-right, by-yes, by-no}
+use Rattle.rows.proofs.Choice.{and-left, and-right, by-yes, by-no, either}
 use Rattle.pairs.specs.Pairs.{pair}
 use Rattle.state.specs.declared.State.{State}
 use Rattle.state.specs.Valid.{validOf}
@@ -126,16 +126,17 @@ module _ (L-ACF : List ℤ) (lags : List ℕ) (scalvad : ℤ) (s : State) where
   unfolding stepOf
   step-refused h = by-no _ _ (ne-eqb (refusalOf L-ACF lags scalvad s) 0 h)
 
--- a refusal: flags 0, energies 0 in both parts, the state as given, and the number
+-- a refusal: flags 0, stat false, energies 0 in both parts, the state as given, and the number
 pub record Refusing (number : ℕ) (s : State) (r : Answer) : Type 0 where
   pub numbered : r .refusal ≡ number
   pub no-flag : (r .vad ≡ false) × (r .vvad ≡ false)
+  pub no-stat : r .stat ≡ false
   pub no-energy : (r .acf0 ≡ pair (pos 0) (pos 0)) × (r .pvad ≡ pair (pos 0) (pos 0))
   pub as-given : r .next ≡ s
 
 refusing : (n : ℕ) (s : State) → Refusing n s (refusedOf n s)
 unfolding refusedOf
-refusing n s = record { numbered = refl; no-flag = (refl, refl); no-energy = (refl, refl); as-given = refl }
+refusing n s = record { numbered = refl; no-flag = (refl, refl); no-stat = refl; no-energy = (refl, refl); as-given = refl }
 
 pub refused-answer : (L-ACF : List ℤ) (lags : List ℕ) (scalvad : ℤ) (s : State) → (refusalOf L-ACF lags scalvad s ≡ 0 → ⊥) → Refusing (refusalOf L-ACF lags scalvad s) s (stepOf L-ACF lags scalvad s)
 refused-answer L-ACF lags scalvad s h = subst (Refusing (refusalOf L-ACF lags scalvad s) s) (sym (step-refused L-ACF lags scalvad s h)) (refusing (refusalOf L-ACF lags scalvad s) s)
@@ -143,6 +144,12 @@ refused-answer L-ACF lags scalvad s h = subst (Refusing (refusalOf L-ACF lags sc
 pub accepted-number : (L-ACF : List ℤ) (lags : List ℕ) (scalvad : ℤ) (s : State) → refusalOf L-ACF lags scalvad s ≡ 0 → stepOf L-ACF lags scalvad s .refusal ≡ 0
 unfolding acceptedOf
 accepted-number L-ACF lags scalvad s e = ap (λ (r : Answer). r .refusal) (step-accepted L-ACF lags scalvad s e)
+
+-- an answer with number 0 is that of a frame that is not refused
+pub accepted-0 : (L-ACF : List ℤ) (lags : List ℕ) (scalvad : ℤ) (s : State) → stepOf L-ACF lags scalvad s .refusal ≡ 0 → refusalOf L-ACF lags scalvad s ≡ 0
+accepted-0 L-ACF lags scalvad s e =
+    either (refusalOf L-ACF lags scalvad s ≡ 0) (eqb (refusalOf L-ACF lags scalvad s) 0) (eqb-true (refusalOf L-ACF lags scalvad s) 0)
+    (λ t. sym (refused-answer L-ACF lags scalvad s (eqb-false (refusalOf L-ACF lags scalvad s) 0 t) .numbered) ∙ e)
 
 -- ---- what an accepted frame is
 pub nine : (L-ACF : List ℤ) (lags : List ℕ) → lengthsOk L-ACF lags ≡ true → length L-ACF ≡ 9

@@ -52,6 +52,7 @@ acceptedOf L-ACF lags scalvad s =
       refusal = 0;
       vad = h .vad;
       vvad = vvad;
+      stat = m .stat;
       acf0 = e .acf0;
       pvad = e .pvad;
       next =
@@ -73,9 +74,9 @@ acceptedOf L-ACF lags scalvad s =
           };
     }
 
--- a frame that is not: flags 0, energies 0 in both parts, the state as given
+-- a frame that is not: flags 0 and stat false, energies 0 in both parts, the state as given
 unfoldable pub refusedOf : ℕ → State → Answer
-refusedOf number s = record { refusal = number; vad = false; vvad = false; acf0 = pair (pos 0) (pos 0); pvad = pair (pos 0) (pos 0); next = s }
+refusedOf number s = record { refusal = number; vad = false; vvad = false; stat = false; acf0 = pair (pos 0) (pos 0); pvad = pair (pos 0) (pos 0); next = s }
 
 -- the answer for every input
 unfoldable pub stepOf : List ℤ → List ℕ → ℤ → State → Answer

@@ -26,11 +26,12 @@ pub const NUMBERS: usize = 9;
 
 pub const LAGS: usize = 4;
 
-// The answer to a frame.
+// The answer to a frame; `stat` is what 6.4 finds in it.
 pub struct Answer {
     pub refusal: u8,
     pub vad: bool,
     pub vvad: bool,
+    pub stat: bool,
     pub acf0: Pair,
     pub pvad: Pair,
     pub next: State,
@@ -221,6 +222,7 @@ fn accepted(acf: [i32; 9], lags: [u16; 4], scalvad: i16, s: State) -> Answer
         refusal: 0,
         vad: h.vad,
         vvad: vvad,
+        stat: m.stat,
         acf0: acf0,
         pvad: pvad,
         next: next,
@@ -228,13 +230,14 @@ fn accepted(acf: [i32; 9], lags: [u16; 4], scalvad: i16, s: State) -> Answer
 }
 
 // A frame that is refused.
-fn refused(number: u8, s: State) -> Answer
+pub fn refused(number: u8, s: State) -> Answer
     ensures { λ r. ⌜ r ≡ clause.refusedOf number s ⌝ }
 {
     Answer {
         refusal: number,
         vad: false,
         vvad: false,
+        stat: false,
         acf0: Pair { e: 0, m: 0 },
         pvad: Pair { e: 0, m: 0 },
         next: s,

@@ -16,7 +16,7 @@ use Rattle.rows.proofs.Choice.{and-left, and-right, both, either, within-ends}
 use Rattle.rows.proofs.All.{all-at, all-each}
 use Rattle.pairs.specs.declared.Pair.{Pair}
 use Rattle.state.specs.declared.State.{State}
-use Rattle.state.specs.Valid.{pointerOk, sacfWithin, sacfOk, sav0Ok, weightOf, rvadOk, thvadOk, lagOk, countsOk, validOf, Between, Valid, resetOf}
+use Rattle.state.specs.Valid.{pointerOk, sacfWithin, sacfOk, sav0Ok, weightOf, rvadOk, thvadOk, lagOk, countsOk, validOf, Between, Valid, Shaped, resetOf}
 
 -- ---- one test and one fact
 pub le-fact : (a b : ℤ) → leZ a b ≡ true → a ≤ℤ b
@@ -183,3 +183,7 @@ valid-back s v =
 pub reset-valid : validOf resetOf ≡ true
 unfolding validOf countsOk pointerOk sacfOk sacfWithin sav0Ok rvadOk weightOf thvadOk lagOk within resetOf row all total
 reset-valid = refl
+
+pub reset-shaped : Shaped resetOf
+unfolding resetOf row
+reset-shaped = record { rvad = refl; sacf = refl; sav0 = refl }

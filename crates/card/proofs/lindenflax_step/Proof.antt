@@ -8,7 +8,8 @@ use Rattle.detector.specs.declared.Answer.{Answer}
 use Rattle.detector.specs.Step.{stepOf}
 use Rattle.rows.proofs.Choice.{not-true, not-false}
 use Rattle.card.specs.Run.{runOf, stateOf, narrowOf, answerOf, lengthsOf, stepNumber}
-use Rattle.card.proofs.Pointed.{accepted-0, next-in}
+use Rattle.detector.proofs.Table.{accepted-0}
+use Rattle.card.proofs.Pointed.{next-in}
 use Rattle.card.proofs.Answers.{all-lengths, no-acf, no-lags, no-run, no-answer, number-1, number-5, number-of, refused, done-run, done-answer}
 use Rattle.card.proofs.lindenflax_step.Statement.{statement}
 use Rattle.card.proofs.lindenflax_step.Tie as tie

@@ -34,7 +34,7 @@ assembled : (L-ACF : List ℤ) (lags : List ℕ) (scalvad : ℤ) (s : State) {e 
     → v ≡ greaterOf (e .pvad) (k .thvad)
     → h ≡ hangoverOf v (s .burstcount) (s .hangcount)
     → n ≡ k .normrvad → d ≡ m .lastdm → a ≡ k .adaptcount → b ≡ h .burstcount → r ≡ h .hangcount → o ≡ pos (lagcountOf (s .oldlag) lags) → w ≡ s .oldlagcount
-    → _≡_ {A = Answer} (record { refusal = 0; vad = h .vad; vvad = v; acf0 = e .acf0; pvad = e .pvad; next = record { rvad = k .rvad; normrvad = n; sacf = m .sacf; ptsacf = m .ptsacf; sav0 = m .sav0; ptsav0 = m .ptsav0; lastdm = d; thvad = k .thvad; adaptcount = a; burstcount = b; hangcount = r; oldlagcount = o; veryoldlagcount = w; oldlag = getD lags 3 0 } }) (acceptedOf L-ACF lags scalvad s)
+    → _≡_ {A = Answer} (record { refusal = 0; vad = h .vad; vvad = v; stat = m .stat; acf0 = e .acf0; pvad = e .pvad; next = record { rvad = k .rvad; normrvad = n; sacf = m .sacf; ptsacf = m .ptsacf; sav0 = m .sav0; ptsav0 = m .ptsav0; lastdm = d; thvad = k .thvad; adaptcount = a; burstcount = b; hangcount = r; oldlagcount = o; veryoldlagcount = w; oldlag = getD lags 3 0 } }) (acceptedOf L-ACF lags scalvad s)
 unfolding acceptedOf
 assembled L-ACF lags scalvad s e₁ e₂ e₃ e₄ e₅ e₆ n₁ n₂ n₃ n₄ n₅ n₆ n₇ = rw (n₁, n₂, n₃, n₄, n₅, n₆, n₇, e₆, e₅, e₄, e₃, e₂, e₁)
 
