@@ -7,3 +7,4 @@ pub mod Fields
 pub mod Puts
 pub mod Answers
 pub mod RoundTrip
+pub mod Malformed

@@ -1,13 +1,10 @@
--- The numbers of refusals are single digits, and a line that is not 82 bytes long is malformed. Assumes nothing.
-use mathlib.Core.Path.{_≡_}
+-- The numbers of refusals are single digits. Assumes nothing.
 use mathlib.Core.Bool.{Bool, true, false}
 use mathlib.Core.List.{List}
 use Prim.Native.Nat.{ℕ, _<_}
 use native.Mathlib.Omega.{arith}
 use lib.Dec.{eqb}
-use borrow.Author.Tests.{ne-eqb}
 use lib.IntN.{ℤ}
-use lib.ListN.{length}
 use Rattle.rows.specs.Choice.{IF_THEN_ELSE_}
 use Rattle.rows.proofs.Choice.{by-test}
 use Rattle.state.specs.declared.State.{State}
@@ -51,8 +48,3 @@ decoded-small l =
     by-test (λ (d : Decoded). d .refusal < 10) (formedOf l) _ _
     (λ t. by-test (λ (d : Decoded). d .refusal < 10) (eqb (answer.rangesOf (frameOf l)) 0) _ _ (λ u. omega arith) (λ u. frame-small (frameOf l .acf) (frameOf l .lags) (frameOf l .scale)))
     (λ t. omega arith)
-
--- a line of another length
-pub size-no : (l : List ℕ) → (length l ≡ 82 → ⊥) → answer.decodedOf l ≡ answer.refusedOf 6
-unfolding answer.decodedOf formedOf IF_THEN_ELSE_
-size-no l h = rw (ne-eqb (length l) 82 h)
