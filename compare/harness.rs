@@ -1,9 +1,9 @@
 //! Feeds the detector and the second program the same input, and stops at the first difference.
 //!
-//!     harness RUN_TRACE NIGHT_TOTALS CALLS TRACES SEED
+//!     harness RUN_TRACE NIGHT_TOTALS WHY_TRACE CALLS TRACES SEED
 //!
-//! RUN_TRACE and NIGHT_TOTALS are the programs and CALLS that of calls.c, which calls the static library; compare/on_x86_64 runs them all. TRACES is
-//! a folder of NAME.trace with NAME.expected beside it, SEED a number.
+//! RUN_TRACE, NIGHT_TOTALS and WHY_TRACE are the programs and CALLS that of calls.c, which calls the static library; compare/on_x86_64 runs them all.
+//! TRACES is a folder of NAME.trace with NAME.expected beside it, SEED a number.
 #[allow(dead_code)]
 #[path = "second.rs"]
 mod second;
@@ -298,10 +298,9 @@ fn write_line(acf: &[i64], lags: &[i64], scale: i64) -> Vec<u8> {
     text.into_bytes()
 }
 
-/// A line of a frame, now and then damaged.
-fn any_line(r: &mut Random) -> Vec<u8> {
-    let (acf, lags, scale) = any_frame(r);
-    let mut line = write_line(&acf, &lags, scale);
+/// The line of a frame, now and then damaged.
+fn any_line(r: &mut Random, (acf, lags, scale): &(Vec<i64>, Vec<i64>, i64)) -> Vec<u8> {
+    let mut line = write_line(acf, lags, *scale);
     if r.one_in(12) {
         let at = r.from(0, 80) as usize;
         match r.next() % 8 {
@@ -318,11 +317,15 @@ fn any_line(r: &mut Random) -> Vec<u8> {
     line
 }
 
-/// A trace of lines, some of them damaged.
-fn any_trace(r: &mut Random, lines: usize) -> Vec<u8> {
+/// A trace of lines, some of them damaged; the frame is a new one for one in so many of them.
+fn any_trace(r: &mut Random, lines: usize, new: u64) -> Vec<u8> {
     let mut out = Vec::new();
+    let mut frame = any_frame(r);
     for _ in 0..lines {
-        out.extend(any_line(r));
+        if r.one_in(new) {
+            frame = any_frame(r);
+        }
+        out.extend(any_line(r, &frame));
     }
     if r.one_in(2) {
         let cut = r.from(1, LINE as i64) as usize;
@@ -375,7 +378,10 @@ fn compare_lines(library: &mut Library, r: &mut Random) -> [usize; 4] {
         let line = match r.next() % 8 {
             0 => (0..r.from(0, 120)).map(|_| r.next() as u8).collect(),
             1 => (0..81).map(|_| b"0123456789ABCDEF"[r.next() as usize % 16]).chain([b'\n']).collect(),
-            _ => any_line(r),
+            _ => {
+                let frame = any_frame(r);
+                any_line(r, &frame)
+            }
         };
         tell(0, compare_read(library, &line, (9, 4, 1)));
         let (acf, lags, scale) = any_frame(r);
@@ -470,18 +476,40 @@ fn compare_lengths(library: &mut Library) -> usize {
     count
 }
 
-/// The totals of a trace that comes in pieces, held to the second program's: they add up, and are those of its answers.
-fn held_totals(program: &str, what: &str, trace: &[u8], answers: &[u8], r: &mut Random) {
+/// The programs on a trace that comes in pieces, each held to the second program; `answers` are the right ones.
+fn held_programs(programs: &[String], what: &str, trace: &[u8], answers: &[u8], r: &mut Random) {
+    let mut of = |i: usize| written(&programs[i], trace, || r.from(1, 70000) as usize);
+    held(what, trace, &of(0), answers);
+    held_totals(what, trace, &of(1), answers);
+    held_why(what, trace, &of(2), answers);
+}
+
+/// The totals, held to the second program's: they add up, and are those of the answers.
+fn held_totals(what: &str, trace: &[u8], got: &[u8], answers: &[u8]) {
     let (refusal, totals) = second::totals([0; 5], trace);
     let of = |kinds: &[&[u8]]| answers.chunks(4).filter(|a| kinds.iter().any(|k| a.starts_with(k))).count() as u64;
     let counts = [of(&[b"0"]), of(&[b"011"]), of(&[b"010"]), of(&[b"000"]), of(&[b"2", b"3", b"4", b"6"])];
     if (refusal, totals) != (0, counts) || counts[0] + counts[4] != answers.len() as u64 / 4 {
         fail(&format!("{what} (second program): totals {totals:?} and counts {counts:?}"));
     }
-    let (got, right) = (written(program, trace, || r.from(1, 70000) as usize), second::report(totals));
+    let right = second::report(totals);
     if got != right {
-        fail(&format!("{what}: totals {} and not {}", String::from_utf8_lossy(&got), String::from_utf8_lossy(&right)));
+        fail(&format!("{what}: totals {} and not {}", String::from_utf8_lossy(got), String::from_utf8_lossy(&right)));
     }
+}
+
+/// The explanations, held to the second program's: their flags are those of the answers.
+fn held_why(what: &str, trace: &[u8], got: &[u8], answers: &[u8]) {
+    let right = second::why(0, trace);
+    let answer = |line: &str| match line.split(' ').collect::<Vec<_>>()[..] {
+        ["refused", number] => format!("{number}00\n"),
+        [_, "energy", ..] => "011\n".to_string(),
+        [_, "hangover", ..] => "010\n".to_string(),
+        _ => "000\n".to_string(),
+    };
+    let explained: String = String::from_utf8_lossy(&right).lines().map(answer).collect();
+    held(&format!("{what} (second program), explained"), trace, explained.as_bytes(), answers);
+    held(&format!("{what}, explained"), trace, got, &right);
 }
 
 /// Line by line, so that the first difference is named with its line of input.
@@ -489,51 +517,51 @@ fn held(what: &str, trace: &[u8], got: &[u8], right: &[u8]) {
     if got == right {
         return;
     }
-    let at = got.chunks(4).zip(right.chunks(4)).position(|(x, y)| x != y).unwrap_or(got.len().min(right.len()) / 4);
-    let line = trace.split_inclusive(|b| *b == b'\n').nth(at).unwrap_or(b"(past the end)");
-    let show = |x: &[u8]| String::from_utf8_lossy(x.chunks(4).nth(at).unwrap_or(b"(nothing)")).trim_end().to_string();
-    fail(&format!("{what}, line {}: {} and not {}\n{}", at + 1, show(got), show(right), String::from_utf8_lossy(line)));
+    let lines = |x| <[u8]>::split_inclusive(x, |b| *b == b'\n');
+    let at = lines(got).zip(lines(right)).take_while(|(x, y)| x == y).count();
+    let show = |x| String::from_utf8_lossy(lines(x).nth(at).unwrap_or(b"(nothing)")).trim_end().to_string();
+    fail(&format!("{what}, line {}: {} and not {}\n{}", at + 1, show(got), show(right), show(trace)));
 }
 
 fn main() {
     let args: Vec<String> = std::env::args().collect();
-    if args.len() != 6 {
-        eprintln!("usage: harness RUN_TRACE NIGHT_TOTALS CALLS TRACES SEED");
+    if args.len() != 7 {
+        eprintln!("usage: harness RUN_TRACE NIGHT_TOTALS WHY_TRACE CALLS TRACES SEED");
         exit(2);
     }
-    let seed: u64 = args[5].parse().expect("a number");
+    let programs = &args[1..4];
+    let seed: u64 = args[6].parse().expect("a number");
     let mut r = Random(seed | 1);
 
     // the traces of the repository: both programs, and the answers that are kept
     let (mut traces, mut lines) = (0, 0);
-    let mut names: Vec<_> = std::fs::read_dir(&args[4]).expect("the folder of traces").map(|e| e.unwrap().path()).collect();
+    let mut names: Vec<_> = std::fs::read_dir(&args[5]).expect("the folder of traces").map(|e| e.unwrap().path()).collect();
     names.sort();
     for path in names.iter().filter(|p| p.extension().map_or(false, |e| e == "trace")) {
         let trace = std::fs::read(path).unwrap();
         let kept = std::fs::read(path.with_extension("expected")).unwrap();
-        held(&format!("{} (second program)", path.display()), &trace, &second::run(&trace), &kept);
-        held(&format!("{}", path.display()), &trace, &written(&args[1], &trace, || r.from(1, 70000) as usize), &kept);
-        held_totals(&args[2], &format!("{}", path.display()), &trace, &kept, &mut r);
+        let what = path.display().to_string();
+        held(&format!("{what} (second program)"), &trace, &second::run(&trace), &kept);
+        held_programs(programs, &what, &trace, &kept, &mut r);
         traces += 1;
         lines += kept.len() / 4;
     }
-    println!("{traces} traces of {lines} lines, and their totals");
+    println!("{traces} traces of {lines} lines, their totals and their explanations");
 
-    // random and damaged lines, in pieces
+    // random and damaged lines, in pieces; in half of the traces frames stay alike, so that the threshold adapts
     let mut random = 0;
     for n in [0, 1, 2, 3, 50, 1000, 20000, 100000] {
-        for _ in 0..4 {
-            let trace = any_trace(&mut r, n);
+        for new in [1, 1, 20, 20] {
+            let trace = any_trace(&mut r, n, new);
             let right = second::run(&trace);
-            held("random lines", &trace, &written(&args[1], &trace, || r.from(1, 70000) as usize), &right);
-            held_totals(&args[2], "random lines", &trace, &right, &mut r);
+            held_programs(programs, "random lines", &trace, &right, &mut r);
             random += right.len() / 4;
         }
     }
-    println!("{random} random and damaged lines, and the totals of their traces");
+    println!("{random} random and damaged lines, the totals of their traces and their explanations");
 
     // random valid states and frames, one step each, and runs of them
-    let library = &mut Library { program: &args[3], waiting: Vec::new() };
+    let library = &mut Library { program: &args[4], waiting: Vec::new() };
     let mut steps = 0;
     for _ in 0..400_000 {
         let m = any_state(&mut r);

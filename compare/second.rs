@@ -3,6 +3,9 @@
 
 pub const LINE: usize = 82;
 
+/// The most lines that the totals count, and the most frames that are numbered.
+const MOST: u64 = 0xFFFF_FFFF;
+
 /// What is kept from frame to frame.
 #[derive(Clone, Debug, PartialEq, Eq)]
 pub struct Memory {
@@ -23,7 +26,17 @@ pub struct Memory {
     pub oldlag: i64,
 }
 
-/// What a frame is answered.
+/// The way of a frame through 6.6: where it leaves the clause. Waiting has adaptcount as it has risen.
+#[derive(Clone, Debug, PartialEq, Eq)]
+pub enum Way {
+    Floor,
+    Periodic,
+    Unsteady,
+    Waiting(i64),
+    Adapted,
+}
+
+/// What a frame is answered, and its way, which a refused one has not.
 #[derive(Clone, Debug, PartialEq, Eq)]
 pub struct Answer {
     pub refusal: i64,
@@ -31,6 +44,7 @@ pub struct Answer {
     pub vvad: i64,
     pub acf0: (i64, i64),
     pub pvad: (i64, i64),
+    pub way: Option<Way>,
     pub next: Memory,
 }
 
@@ -161,6 +175,10 @@ pub fn frame_refusal(acf: &[i64], lags: &[i64], scal: i64) -> i64 {
     }
 }
 
+fn refused(refusal: i64, memory: &Memory) -> Answer {
+    Answer { refusal, vad: 0, vvad: 0, acf0: (0, 0), pvad: (0, 0), way: None, next: memory.clone() }
+}
+
 /// One frame.
 pub fn step(acf: &[i64], lags: &[i64], scal: i64, memory: &Memory) -> Answer {
     let refusal = if acf.len() != 9 || lags.len() != 4 {
@@ -171,7 +189,7 @@ pub fn step(acf: &[i64], lags: &[i64], scal: i64, memory: &Memory) -> Answer {
         frame_refusal(acf, lags, scal)
     };
     if refusal != 0 {
-        return Answer { refusal, vad: 0, vvad: 0, acf0: (0, 0), pvad: (0, 0), next: memory.clone() };
+        return refused(refusal, memory);
     }
     let mut s = memory.clone();
 
@@ -225,10 +243,12 @@ pub fn step(acf: &[i64], lags: &[i64], scal: i64, memory: &Memory) -> Answer {
     let ptch = s.oldlagcount + s.veryoldlagcount >= 4;
 
     // 6.6
-    if acf0 < (19, 18750) {
+    let way = if acf0 < (19, 18750) {
         (s.e_thvad, s.m_thvad) = (20, 25000);
+        Way::Floor
     } else if ptch || !stat {
         s.adaptcount = 0;
+        if ptch { Way::Periodic } else { Way::Unsteady }
     } else {
         s.adaptcount += 1;
         if s.adaptcount > 8 {
@@ -236,8 +256,11 @@ pub fn step(acf: &[i64], lags: &[i64], scal: i64, memory: &Memory) -> Answer {
             s.rvad = rav1;
             s.normrvad = normrav1;
             s.adaptcount = 9;
+            Way::Adapted
+        } else {
+            Way::Waiting(s.adaptcount)
         }
-    }
+    };
 
     // 6.7
     let vvad = pvad > (s.e_thvad, s.m_thvad);
@@ -266,7 +289,7 @@ pub fn step(acf: &[i64], lags: &[i64], scal: i64, memory: &Memory) -> Answer {
     s.veryoldlagcount = s.oldlagcount;
     s.oldlagcount = count;
 
-    Answer { refusal: 0, vad: vad as i64, vvad: vvad as i64, acf0, pvad, next: s }
+    Answer { refusal: 0, vad: vad as i64, vvad: vvad as i64, acf0, pvad, way: Some(way), next: s }
 }
 
 /// 6.2: the average of this frame and the three before it, and the one of four frames before.
@@ -416,26 +439,23 @@ pub fn decode(line: &[u8]) -> Result<(Vec<i64>, Vec<i64>, i64), i64> {
     }
 }
 
-/// Hands on the answer to each line of a trace: its refusal, vad and vvad.
-fn answers(trace: &[u8], mut hand: impl FnMut(i64, i64, i64)) {
+/// Hands on the answer to each line of a trace.
+fn answers(trace: &[u8], mut hand: impl FnMut(&Answer)) {
     let mut memory = Memory::reset();
     for line in trace.split_inclusive(|b| *b == b'\n') {
-        let (refusal, vad, vvad) = match decode(line) {
-            Ok((acf, lags, scal)) => {
-                let r = step(&acf, &lags, scal, &memory);
-                memory = r.next;
-                (r.refusal, r.vad, r.vvad)
-            }
-            Err(n) => (n, 0, 0),
+        let answer = match decode(line) {
+            Ok((acf, lags, scal)) => step(&acf, &lags, scal, &memory),
+            Err(n) => refused(n, &memory),
         };
-        hand(refusal, vad, vvad);
+        hand(&answer);
+        memory = answer.next;
     }
 }
 
 /// The answers to a whole trace.
 pub fn run(trace: &[u8]) -> Vec<u8> {
     let mut out = Vec::with_capacity(trace.len() / LINE * 4 + 4);
-    answers(trace, |refusal, vad, vvad| out.extend([48 + refusal as u8, 48 + vad as u8, 48 + vvad as u8, b'\n']));
+    answers(trace, |a| out.extend([48 + a.refusal as u8, 48 + a.vad as u8, 48 + a.vvad as u8, b'\n']));
     out
 }
 
@@ -448,19 +468,19 @@ pub type Totals = [u64; 5];
 pub fn totals(so_far: Totals, trace: &[u8]) -> (i64, Totals) {
     let [mut accepted, mut speech, mut held, mut quiet, mut refused] = so_far;
     let mut number = 0;
-    answers(trace, |refusal, vad, vvad| {
-        if number == 7 || accepted + refused >= 0xFFFF_FFFF {
+    answers(trace, |a| {
+        if number == 7 || accepted + refused >= MOST {
             number = 7;
             return;
         }
-        if refusal != 0 {
+        if a.refusal != 0 {
             refused += 1;
             return;
         }
         accepted += 1;
-        *(if vvad == 1 {
+        *(if a.vvad == 1 {
             &mut speech
-        } else if vad == 1 {
+        } else if a.vad == 1 {
             &mut held
         } else {
             &mut quiet
@@ -474,4 +494,47 @@ pub fn report(totals: Totals) -> Vec<u8> {
     let mut line: String = totals.iter().map(|n| format!("{n:08X}")).collect();
     line.push('\n');
     line.into_bytes()
+}
+
+// ---- why a frame was sent
+
+impl std::fmt::Display for Way {
+    fn fmt(&self, f: &mut std::fmt::Formatter) -> std::fmt::Result {
+        match self {
+            Way::Floor => f.write_str("floor"),
+            Way::Periodic => f.write_str("periodic"),
+            Way::Unsteady => f.write_str("unsteady"),
+            Way::Waiting(count) => write!(f, "waiting {count}"),
+            Way::Adapted => f.write_str("adapted"),
+        }
+    }
+}
+
+/// The place, counted from 1, at which the latest three raw flags in a row that are set end. It is looked for in the flags, and not counted along.
+fn burst_end(raw: &[bool]) -> u64 {
+    (3..=raw.len()).rev().find(|end| raw[end - 3..*end] == [true; 3]).expect("a burst before its hangover") as u64
+}
+
+/// Why each frame of a trace was sent or not, and its way, a line for each line; `so_far` frames were accepted before. Past the limit the state still
+/// changes, which shows in nothing: no frame is explained there.
+pub fn why(so_far: u64, trace: &[u8]) -> Vec<u8> {
+    let mut out = String::new();
+    let mut raw = Vec::new();
+    answers(trace, |a| {
+        let text = match &a.way {
+            None => format!("refused {}\n", a.refusal),
+            Some(_) if so_far + raw.len() as u64 >= MOST => "refused 7\n".to_string(),
+            Some(way) => {
+                raw.push(a.vvad == 1);
+                let number = so_far + raw.len() as u64;
+                match (a.vvad, a.vad) {
+                    (1, _) => format!("{number} energy {way}\n"),
+                    (_, 1) => format!("{number} hangover {} {way}\n", so_far + burst_end(&raw)),
+                    _ => format!("{number} quiet {way}\n"),
+                }
+            }
+        };
+        out += &text;
+    });
+    out.into_bytes()
 }

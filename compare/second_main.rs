@@ -2,6 +2,7 @@
 //!
 //!     second [FILE..]                             the answers
 //!     second totals [--after DIGITS] [FILE..]     for each file the line of its totals, after those that 40 digits write
+//!     second why [--after NUMBER] [FILE..]        for each line why its frame was sent or not, after so many accepted frames
 #[allow(dead_code)]
 #[path = "second.rs"]
 mod second;
@@ -9,29 +10,30 @@ mod second;
 use std::io::{Read, Write};
 
 fn main() {
-    let mut words: Vec<String> = std::env::args().skip(1).collect();
-    let mut so_far = None;
-    if words.first().map_or(false, |w| w == "totals") {
-        words.remove(0);
-        so_far = Some([0; 5]);
-        if words.first().map_or(false, |w| w == "--after") {
-            let digits = words.drain(..2).nth(1).expect("the digits");
-            so_far = Some([0, 8, 16, 24, 32].map(|at| u64::from_str_radix(&digits[at..at + 8], 16).expect("a number")));
-        }
-    }
-    let mut traces: Vec<Vec<u8>> = words.iter().map(|path| std::fs::read(path).expect("the trace")).collect();
+    let words: Vec<String> = std::env::args().skip(1).collect();
+    let words: Vec<&str> = words.iter().map(|w| w.as_str()).collect();
+    // forty zeros are also the number 0
+    let nothing = "0".repeat(40);
+    let (command, after, files) = match &words[..] {
+        [command @ ("totals" | "why"), "--after", after, files @ ..] => (*command, *after, files),
+        [command @ ("totals" | "why"), files @ ..] => (*command, nothing.as_str(), files),
+        files => ("run", "", files),
+    };
+    let mut traces: Vec<(&str, Vec<u8>)> = files.iter().map(|path| (*path, std::fs::read(path).expect("the trace"))).collect();
     if traces.is_empty() {
-        traces.push(Vec::new());
-        std::io::stdin().read_to_end(&mut traces[0]).expect("the trace");
-        words.push("standard input".to_string());
+        let mut trace = Vec::new();
+        std::io::stdin().read_to_end(&mut trace).expect("the trace");
+        traces.push(("standard input", trace));
     }
-    for (name, trace) in words.iter().zip(traces) {
-        let (refusal, text) = match so_far {
-            Some(totals) => {
-                let (refusal, totals) = second::totals(totals, &trace);
+    for (name, trace) in traces {
+        let (refusal, text) = match command {
+            "totals" => {
+                let so_far = [0, 8, 16, 24, 32].map(|at| u64::from_str_radix(&after[at..at + 8], 16).expect("a number"));
+                let (refusal, totals) = second::totals(so_far, &trace);
                 (refusal, second::report(totals))
             }
-            None => (0, second::run(&trace)),
+            "why" => (0, second::why(after.parse().expect("a number"), &trace)),
+            _ => (0, second::run(&trace)),
         };
         std::io::stdout().write_all(&text).expect("the answers");
         if refusal != 0 {

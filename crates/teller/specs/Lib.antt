@@ -1,0 +1,5 @@
+pub mod Decimal
+pub mod Words
+pub mod Run
+pub mod Fed
+pub mod Frames

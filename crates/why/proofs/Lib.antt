@@ -1,0 +1,6 @@
+pub mod Steps
+pub mod Range
+pub mod Fits
+pub mod Asked
+pub mod Left
+pub mod Instances

@@ -1,0 +1,54 @@
+-- One frame: refused, beyond the last number, or accepted. What the proofs of `numbered` and `explain`, and the theorems, cite. Assumes nothing.
+use mathlib.Core.Path.{_≡_, sym, ap, _∙_}
+use mathlib.Core.List.{List}
+use Prim.Native.Nat.{ℕ, _<_, _≤_}
+use native.Mathlib.Omega.{arith}
+use borrow.Author.Tests.{eq-eqb, ne-eqb, le-leb, lt-leb, eqb-true, eqb-false, leb-true, leb-false}
+use lib.Dec.{eqb, leb}
+use lib.IntN.{ℤ}
+use Rattle.rows.specs.Choice.{IF_THEN_ELSE_}
+use Rattle.rows.proofs.Choice.{by-yes, by-no, either}
+use Rattle.detector.specs.declared.Answer.{Answer}
+use Rattle.detector.specs.Step.{refusedOf, stepOf}
+use Rattle.why.specs.declared.Explainer.{Explainer}
+use Rattle.why.specs.Explain.{limit, acceptedOf, deniedOf, numberedOf, explainedOf}
+
+module _ (e : Explainer) (a : Answer) where
+  -- refused already
+  pub numbered-refused : (a .refusal ≡ 0 → ⊥) → numberedOf e a ≡ a
+  unfolding numberedOf IF_THEN_ELSE_
+  numbered-refused h = rw (ne-eqb (a .refusal) 0 h)
+
+  -- no number is left
+  pub numbered-beyond : a .refusal ≡ 0 → limit ≤ e .number → numberedOf e a ≡ refusedOf 7 (e .state)
+  unfolding numberedOf IF_THEN_ELSE_
+  numbered-beyond h l = rw (eq-eqb (a .refusal) 0 h, le-leb limit (e .number) l)
+
+  pub numbered-within : e .number < limit → numberedOf e a ≡ a
+  unfolding numberedOf IF_THEN_ELSE_
+  numbered-within l = either (numberedOf e a ≡ a) (eqb (a .refusal) 0) (λ t. rw (t, lt-leb limit (e .number) l)) (λ t. rw t)
+
+  -- so one that is accepted has a number
+  pub numbered-left : numberedOf e a .refusal ≡ 0 → e .number < limit
+  unfolding refusedOf
+  numbered-left h =
+      either (e .number < limit) (leb limit (e .number))
+      (λ t. absurd (either ⊥ (eqb (a .refusal) 0)
+      (λ u. seven (sym (ap (λ (r : Answer). r .refusal) (numbered-beyond (eqb-true (a .refusal) 0 u) (leb-true limit (e .number) t))) ∙ h))
+      (λ u. let n = eqb-false (a .refusal) 0 u in n (sym (ap (λ (r : Answer). r .refusal) (numbered-refused n)) ∙ h))))
+      (λ t. leb-false limit (e .number) t)
+    where
+      seven : _≡_ {A = ℕ} 7 0 → ⊥
+      seven q = omega arith
+
+module _ (e : Explainer) (L-ACF : List ℤ) (lags : List ℕ) (scalvad : ℤ) where
+  abbrev a : Answer
+  a = numberedOf e (stepOf L-ACF lags scalvad (e .state))
+
+  pub explained-accepted : a .refusal ≡ 0 → explainedOf e L-ACF lags scalvad ≡ acceptedOf e a
+  unfolding explainedOf
+  explained-accepted h = by-yes _ _ (eq-eqb (a .refusal) 0 h)
+
+  pub explained-denied : (a .refusal ≡ 0 → ⊥) → explainedOf e L-ACF lags scalvad ≡ deniedOf e a
+  unfolding explainedOf
+  explained-denied h = by-no _ _ (ne-eqb (a .refusal) 0 h)

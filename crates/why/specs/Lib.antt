@@ -1,0 +1,4 @@
+pub mod Explain
+pub mod Fits
+pub mod Asked
+pub mod Worked
