@@ -30,7 +30,7 @@ use Rattle.why.specs.declared.Explainer.{Explainer}
 use Rattle.why.specs.declared.Explained.{Explained}
 use Rattle.why.specs.Explain.{limit, startOf, flagReason, latestAfter, thresholdReason, acceptedOf, deniedOf}
 use Rattle.why.specs.Fits.{Fitting}
-use Rattle.why.specs.Asked.{explainedTo, explainerFrom, explainer, count, answer, Explains, Denies, Asked}
+use Rattle.why.specs.Asked.{explainedTo, explainerFrom, explainer, count, answer, FittingAt, Explains, Denies, Asked}
 use Rattle.why.proofs.Steps.{numbered-refused, numbered-beyond, numbered-within, explained-accepted, explained-denied}
 use Rattle.why.proofs.Fits.{flag-fits, flag-only, way-fits, way-only}
 
@@ -323,6 +323,10 @@ module _ (before : List Frame) (f : Frame) where
 
   pub asked : Asked before f
   asked = record { accepted = explains; beyond = beyond; refused = refused }
+
+-- so one and only one fits
+pub one-fits : (before : List Frame) (f : Frame) → answer before f .refusal ≡ 0 → count before < limit → (r q : Reasons) → FittingAt before f r → FittingAt before f q → r ≡ q
+one-fits before f ok l r q x y = let e = asked before f .accepted ok l in because (sym (e .exactly r .1 x) ∙ e .exactly q .1 y)
 
 -- beyond the last number nothing changes, whatever comes
 pub stays : (e : Explainer) (f : Frame) → limit ≤ e .number → explainedTo e f .next ≡ e
