@@ -9,8 +9,8 @@ use lib.IntN.{ℤ}
 use lib.ListN.{length, length-append}
 use Rattle.hangover.specs.declared.Hung.{Hung}
 use Rattle.hangover.specs.Hangover.{hangoverOf}
-use Rattle.hangover.specs.Bursts.{rawAt, hungAt, flagAt}
-use Rattle.hangover.proofs.Bursts.{with-is, more-hung}
+use Rattle.hangover.specs.Bursts.{rawAt}
+use Rattle.hangover.proofs.Bursts.{hungAt, flagAt, with-is, more-hung}
 use Rattle.state.specs.declared.State.{State}
 use Rattle.state.specs.Valid.{resetOf}
 use Rattle.detector.specs.declared.Answer.{Answer}

@@ -1,5 +1,6 @@
--- The counts of 6.8 are what the raw flags so far make them: how many in a row are raw speech, and how much of the tail is left since the latest
--- burst ended. So burstcount tells whether a burst ended at a frame, and a frame that the hangover holds has a latest burst. Assumes nothing.
+-- Clause 6.8 with its two lengths as parameters, a burst of B frames and a tail of T, frame after frame; the clause has 3 and 5. The counts are what
+-- the raw flags so far make them: how many in a row are raw speech, and how much of the tail is left since the latest burst ended. So burstcount tells
+-- whether a burst ended at a frame, and a frame that the hangover holds has a latest burst. Assumes nothing.
 use mathlib.Core.Path.{_≡_, refl, sym, ap, ap₂, subst, _∙_}
 use mathlib.Core.Bool.{Bool, true, false, _||_}
 use mathlib.Core.List.{List, [], _∷_, _++_}
@@ -19,7 +20,21 @@ use Rattle.rows.specs.Choice.{IF_THEN_ELSE_}
 use Rattle.rows.proofs.Choice.{by-test, by-no, either}
 use Rattle.hangover.specs.declared.Hung.{Hung}
 use Rattle.hangover.specs.Hangover.{burstOf, runDownOf, startedOf, hangoverOf}
-use Rattle.hangover.specs.Bursts.{rawAt, Ended, Latest, startedWith, hangoverWith, hungAt, flagAt}
+use Rattle.hangover.specs.Bursts.{rawAt, Ended, Latest}
+
+-- ---- the clause, and frame after frame from reset: what the first i frames leave, and the flag of frame i
+unfoldable pub startedWith : ℤ → ℤ → Bool → ℤ → ℤ → Hung
+startedWith B T vvad burstcount hangcount = IF leZ B burstcount THEN runDownOf vvad B T ELSE runDownOf vvad burstcount hangcount
+
+unfoldable pub hangoverWith : ℤ → ℤ → Bool → ℤ → ℤ → Hung
+hangoverWith B T vvad burstcount hangcount = startedWith B T vvad (burstOf vvad burstcount) hangcount
+
+unfoldable pub hungAt : ℕ → ℕ → (ℕ → Bool) → ℕ → Hung
+hungAt B T raw zero = record { vad = false; burstcount = pos 0; hangcount = negsuc 0 }
+hungAt B T raw (suc i) = hangoverWith (pos B) (pos T) (raw i) (hungAt B T raw i .burstcount) (hungAt B T raw i .hangcount)
+
+unfoldable pub flagAt : ℕ → ℕ → (ℕ → Bool) → ℕ → Bool
+flagAt B T raw i = hungAt B T raw (suc i) .vad
 
 -- ---- how many raw speech frames in a row end before frame i; how many frames of the tail are left at frame i; the latest burst
 unfoldable pub leadAt : (ℕ → Bool) → ℕ → ℕ

@@ -13,8 +13,8 @@ use lib.ListN.{length, length-append}
 use lib.Signed.{leZ}
 use Rattle.rows.specs.Choice.{IF_THEN_ELSE_}
 use Rattle.rows.proofs.Choice.{by-yes, by-no, either}
-use Rattle.hangover.specs.Bursts.{rawAt, Latest, hungAt}
-use Rattle.hangover.proofs.Bursts.{latestAt, latest-is, latest-next, latest-quiet, held-by, more-last, more-latest}
+use Rattle.hangover.specs.Bursts.{rawAt, Latest}
+use Rattle.hangover.proofs.Bursts.{hungAt, latestAt, latest-is, latest-next, latest-quiet, held-by, more-last, more-latest}
 use Rattle.threshold.specs.declared.Way.{Way}
 use Rattle.state.specs.declared.State.{State}
 use Rattle.state.specs.Valid.{resetOf}
