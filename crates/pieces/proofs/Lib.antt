@@ -5,3 +5,4 @@ pub mod Whole
 pub mod Caller
 pub mod Runs
 pub mod Folds
+pub mod Calls

@@ -2,3 +2,4 @@ pub mod Lines
 pub mod Cut
 pub mod Pieces
 pub mod Put
+pub mod Calls

@@ -1,8 +1,8 @@
 -- What a caller of `start`, `feed` and `finish` gets, by their promises alone, is what the run of the whole input writes, however the input is
 -- cut. Assumes nothing.
-use mathlib.Core.Path.{_≡_, refl, sym, ap, ap₂, _∙_}
+use mathlib.Core.Path.{_≡_, refl, sym, ap, _∙_}
 use mathlib.Core.Bool.{false}
-use mathlib.Core.List.{List, [], _∷_, _++_, append-nil}
+use mathlib.Core.List.{List, [], _∷_, append-nil}
 use Prim.Native.Nat.{ℕ, _/_, _≤_}
 use native.Mathlib.Omega.{arith}
 use borrow.Author.Tests.{le-leb, leb-true, eqb-true, eqb-false}
@@ -13,12 +13,14 @@ use Rattle.rows.specs.Choice.{IF_THEN_ELSE_}
 use Rattle.rows.proofs.Choice.{by-test}
 use Rattle.state.specs.declared.State.{State}
 use Rattle.state.specs.Valid.{resetOf}
-use Rattle.pieces.specs.Lines.{linesOf}
-use Rattle.pieces.specs.Cut.{finderOf, heldOf, restOf}
-use Rattle.pieces.specs.Pieces.{flat, handedOf, handedAll, textAfter}
+use Rattle.pieces.specs.Lines.{linesOf, short}
+use Rattle.pieces.specs.Cut.{finderOf, heldOf}
+use Rattle.pieces.specs.Calls.{Call, piecesOf}
+use Rattle.pieces.specs.Pieces.{flat, handedAll, textAfter}
 use Rattle.pieces.proofs.Found.{one-line}
 use Rattle.pieces.proofs.Carried.{held-plain}
-use Rattle.pieces.proofs.Caller.{text-append, text-whole}
+use Rattle.pieces.proofs.Caller.{text-whole}
+use Rattle.pieces.proofs.Calls.{calls-whole}
 use Rattle.pieces.proofs.Written.{put-front}
 use Rattle.pieces.proofs.Runs.{handed-fits}
 use Rattle.runner.specs.declared.Runner.{Runner}
@@ -26,7 +28,7 @@ use Rattle.runner.specs.declared.Fed.{Fed}
 use Rattle.runner.specs.declared.Said.{Said}
 use Rattle.runner.specs.Said.{deniedOf, textOf}
 use Rattle.runner.specs.Run.{nextOf, replyOf, answerOf, stateOf, answersOf, runOf}
-use Rattle.runner.specs.Fed.{startOf, writtenOf, nextRunner, fedOf, outAfter, finishOf, Call, piecesOf, callsFrom}
+use Rattle.runner.specs.Fed.{startOf, writtenOf, nextRunner, fedOf, outAfter, finishOf, givenOf, leftOf, lastOf, callsFrom}
 use Rattle.runner.proofs.Steps.{said-cut, said-short, answer-most}
 
 -- ---- a piece
@@ -78,23 +80,25 @@ finish-last r =
     some (r .state) (heldOf f) (one-line (heldOf f) (omega (arith, eqb-false (length (heldOf f)) 0 t)) (omega arith)))
 
 -- ---- all calls
-piece-then : (r : Runner) (p : List ℕ) (ps : List (List ℕ)) → writtenOf r p ++ answersOf (nextRunner r p .state) (handedAll (nextRunner r p .finder) ps) ≡ answersOf (r .state) (handedAll (r .finder) (p ∷ ps))
-unfolding writtenOf nextRunner stateOf answersOf handedAll
-piece-then r p ps = sym (text-append nextOf answerOf (r .state) (handedOf (r .finder) p) (handedAll (restOf (r .finder) p) ps))
+short-next : (s : State) (l : List ℕ) → nextOf s (short l) ≡ nextOf s l
+unfolding nextOf
+short-next s l = ap (λ (x : Said). x .next) (said-short s l)
 
-calls-from : (r : Runner) (cs : List Call) → callsFrom r cs ≡ answersOf (r .state) (handedAll (r .finder) (piecesOf cs))
-unfolding callsFrom handedAll piecesOf
-calls-from r [] = finish-last r
-calls-from r (c ∷ cs) =
-    ap₂ (λ (x y : List ℕ). x ++ y) (fed-text r (c .piece) (c .lent) (c .room)) (ap (λ (s : Runner). callsFrom s cs) (fed-next r (c .piece) (c .lent) (c .room)) ∙ calls-from (nextRunner r (c .piece)) cs)
-    ∙ piece-then r (c .piece) (piecesOf cs)
+short-text : (s : State) (l : List ℕ) → answerOf s (short l) ≡ answerOf s l
+unfolding answerOf replyOf
+short-text s l = ap (λ (x : Said). textOf (x .reply)) (said-short s l)
 
 -- however an input is cut, the answers to the lines that are handed out are those of the run of the whole
 pub cut : (ps : List (List ℕ)) → answersOf resetOf (handedAll (finderOf []) ps) ≡ runOf (flat ps)
-unfolding runOf answersOf nextOf replyOf answerOf
-cut ps = text-whole nextOf answerOf (λ s l. ap (λ (x : Said). x .next) (said-short s l)) (λ s l. ap (λ (x : Said). textOf (x .reply)) (said-short s l)) _ ps
+unfolding runOf answersOf
+cut ps = text-whole nextOf answerOf short-next short-text _ ps
 
 -- what a caller gets by the promises
-pub called : (cs : List Call) → callsFrom startOf cs ≡ runOf (flat (piecesOf cs))
-unfolding startOf
-called cs = calls-from startOf cs ∙ cut (piecesOf cs)
+pub called : (cs : List (Call 4)) → callsFrom startOf cs ≡ runOf (flat (piecesOf cs))
+unfolding startOf callsFrom givenOf leftOf lastOf runOf answersOf writtenOf nextRunner stateOf
+called cs =
+    calls-whole nextOf answerOf (λ (r : Runner). r .state) (λ (r : Runner). r .finder) givenOf leftOf lastOf
+    (λ r c. fed-text r (c .piece) (c .lent) (c .room))
+    (λ r c. ap (λ (n : Runner). n .state) (fed-next r (c .piece) (c .lent) (c .room)))
+    (λ r c. ap (λ (n : Runner). n .finder) (fed-next r (c .piece) (c .lent) (c .room)))
+    finish-last short-next short-text startOf refl cs

@@ -1,8 +1,8 @@
 -- What feeding a piece of the input answers: a runner holds the detector's state and the unfinished line. The lent output needs four bytes for
 -- each byte of the piece: with less the piece is refused, number 1, and nothing changes. `called` in `proofs/Calls.antt` shows that what the pieces
 -- write, in order, is what the run of the whole input writes. Assumes nothing.
-use mathlib.Core.List.{List, [], _∷_, _++_}
-use Prim.Native.Nat.{ℕ, _+_, _/_, _≤_}
+use mathlib.Core.List.{List, []}
+use Prim.Native.Nat.{ℕ, _+_, _/_}
 use lib.Dec.{eqb, leb}
 use lib.ListN.{length, take}
 use Rattle.rows.specs.Choice.{IF_THEN_ELSE_}
@@ -12,6 +12,7 @@ use Rattle.pieces.specs.Lines.{linesOf}
 use Rattle.pieces.specs.Cut.{finderOf, heldOf, restOf}
 use Rattle.pieces.specs.Pieces.{handedOf}
 use Rattle.pieces.specs.Put.{putOf}
+use Rattle.pieces.specs.Calls.{Call, callsGive}
 use Rattle.runner.specs.declared.Runner.{Runner}
 use Rattle.runner.specs.declared.Ran.{Ran}
 use Rattle.runner.specs.declared.Fed.{Fed}
@@ -48,19 +49,16 @@ unfoldable pub finishOf : Runner → Last
 finishOf r = record { wrote = IF eqb (length (heldOf (r .finder))) 0 THEN 0 ELSE answerBytes; text = answerOf (r .state) (heldOf (r .finder)) }
 
 -- ---- a run whose input comes in pieces, by the promises
--- one call: the piece, what the lent output holds before, and that it has four bytes for each byte of the piece
-pub record Call : Type 0 where
-  pub piece : List ℕ
-  pub lent : List ℕ
-  pub room : length piece ≤ length lent / answerBytes
+-- what a call gives, the first `wrote` bytes of its output, and leaves; and what the end gives
+unfoldable pub givenOf : Runner → Call answerBytes → List ℕ
+givenOf r c = take (fedOf r (c .piece) (length (c .lent)) .wrote) (outAfter r (c .piece) (c .lent))
 
-unfoldable pub piecesOf : List Call → List (List ℕ)
-piecesOf [] = []
-piecesOf (c ∷ cs) = c .piece ∷ piecesOf cs
+unfoldable pub leftOf : Runner → Call answerBytes → Runner
+leftOf r c = fedOf r (c .piece) (length (c .lent)) .runner
 
--- the first `wrote` bytes of each output, the calls one after the other, each with the runner that the call before gave; then the end
-unfoldable pub callsFrom : Runner → List Call → List ℕ
-callsFrom r [] = take (finishOf r .wrote) (finishOf r .text)
-callsFrom r (c ∷ cs) =
-    let f = fedOf r (c .piece) (length (c .lent)) in
-    take (f .wrote) (outAfter r (c .piece) (c .lent)) ++ callsFrom (f .runner) cs
+unfoldable pub lastOf : Runner → List ℕ
+lastOf r = take (finishOf r .wrote) (finishOf r .text)
+
+-- all of it
+unfoldable pub callsFrom : Runner → List (Call answerBytes) → List ℕ
+callsFrom r cs = callsGive givenOf leftOf lastOf r cs

@@ -1,6 +1,6 @@
 -- What a caller of `start`, `feed` and `finish` gets, by their promises alone, is what the whole trace is told, however it is cut. Assumes nothing.
-use mathlib.Core.Path.{_≡_, refl, sym, ap, ap₂, _∙_}
-use mathlib.Core.List.{List, [], _∷_, _++_, append-nil}
+use mathlib.Core.Path.{_≡_, refl, sym, ap, _∙_}
+use mathlib.Core.List.{List, [], _∷_, append-nil}
 use Prim.Native.Nat.{ℕ, _/_, _≤_}
 use native.Mathlib.Omega.{arith}
 use borrow.Author.Tests.{le-leb, leb-true, eqb-true, eqb-false}
@@ -9,12 +9,13 @@ use lib.ListN.{length, take}
 use lib.Seq.{take-length}
 use Rattle.rows.specs.Choice.{IF_THEN_ELSE_}
 use Rattle.rows.proofs.Choice.{by-test}
-use Rattle.pieces.specs.Lines.{linesOf, plainOf}
-use Rattle.pieces.specs.Cut.{finderOf, heldOf, restOf}
-use Rattle.pieces.specs.Pieces.{flat, handedOf, handedAll, textAfter}
+use Rattle.pieces.specs.Lines.{linesOf, plainOf, short}
+use Rattle.pieces.specs.Cut.{heldOf}
+use Rattle.pieces.specs.Calls.{Call, piecesOf}
+use Rattle.pieces.specs.Pieces.{flat, textAfter}
 use Rattle.pieces.proofs.Found.{one-line}
 use Rattle.pieces.proofs.Carried.{held-plain}
-use Rattle.pieces.proofs.Caller.{text-append, text-whole}
+use Rattle.pieces.proofs.Calls.{calls-whole}
 use Rattle.pieces.proofs.Written.{put-front}
 use Rattle.pieces.proofs.Runs.{handed-fits}
 use Rattle.why.specs.declared.Why.{Why}
@@ -25,7 +26,7 @@ use Rattle.teller.specs.declared.Fed.{Fed}
 use Rattle.teller.specs.declared.Told.{Told}
 use Rattle.teller.specs.Words.{textOf, most}
 use Rattle.teller.specs.Run.{deniedOf, nextOf, lineText, explainerOf, textsOf, tellOf}
-use Rattle.teller.specs.Fed.{startOf, writtenOf, nextTeller, fedOf, outAfter, finishOf, Call, piecesOf, callsFrom}
+use Rattle.teller.specs.Fed.{startOf, writtenOf, nextTeller, fedOf, outAfter, finishOf, givenOf, leftOf, lastOf, callsFrom}
 use Rattle.teller.proofs.Steps.{told-cut, told-short, cut-text, text-most}
 
 -- ---- a piece
@@ -73,23 +74,20 @@ finish-last t =
     take-length (textOf (Why.Refused 6)) ∙ some (t .explainer) (heldOf f) (one-line (heldOf f) (omega (arith, eqb-false (length (heldOf f)) 0 y)) (omega arith)) p)
 
 -- ---- all calls
-piece-then : (t : Teller) (p : List ℕ) (ps : List (List ℕ)) → writtenOf t p ++ textsOf (nextTeller t p .explainer) (handedAll (nextTeller t p .finder) ps) ≡ textsOf (t .explainer) (handedAll (t .finder) (p ∷ ps))
-unfolding writtenOf nextTeller explainerOf textsOf handedAll
-piece-then t p ps = sym (text-append nextOf lineText (t .explainer) (handedOf (t .finder) p) (handedAll (restOf (t .finder) p) ps))
+short-next : (e : Explainer) (l : List ℕ) → nextOf e (short l) ≡ nextOf e l
+unfolding nextOf
+short-next e l = ap (λ (x : Told). x .next) (told-short e l)
 
-calls-from : (t : Teller) (cs : List Call) → callsFrom t cs ≡ textsOf (t .explainer) (handedAll (t .finder) (piecesOf cs))
-unfolding callsFrom handedAll piecesOf
-calls-from t [] = finish-last t
-calls-from t (c ∷ cs) =
-    ap₂ (λ (x y : List ℕ). x ++ y) (fed-text t (c .piece) (c .lent) (c .room)) (ap (λ (s : Teller). callsFrom s cs) (fed-next t (c .piece) (c .lent) (c .room)) ∙ calls-from (nextTeller t (c .piece)) cs)
-    ∙ piece-then t (c .piece) (piecesOf cs)
-
--- however a trace is cut, what the lines that are handed out are told is what the whole is told
-pub cut : (ps : List (List ℕ)) → textsOf why.startOf (handedAll (finderOf []) ps) ≡ tellOf (flat ps)
-unfolding tellOf textsOf nextOf lineText
-cut ps = text-whole nextOf lineText (λ e l. ap (λ (x : Told). x .next) (told-short e l)) (λ e l. ap (λ (x : Told). textOf (x .why)) (told-short e l)) _ ps
+short-text : (e : Explainer) (l : List ℕ) → lineText e (short l) ≡ lineText e l
+unfolding lineText
+short-text e l = ap (λ (x : Told). textOf (x .why)) (told-short e l)
 
 -- what a caller gets by the promises
-pub called : (cs : List Call) → callsFrom startOf cs ≡ tellOf (flat (piecesOf cs))
-unfolding startOf
-called cs = calls-from startOf cs ∙ cut (piecesOf cs)
+pub called : (cs : List (Call most)) → callsFrom startOf cs ≡ tellOf (flat (piecesOf cs))
+unfolding startOf callsFrom givenOf leftOf lastOf tellOf textsOf writtenOf nextTeller explainerOf
+called cs =
+    calls-whole nextOf lineText (λ (t : Teller). t .explainer) (λ (t : Teller). t .finder) givenOf leftOf lastOf
+    (λ t c. fed-text t (c .piece) (c .lent) (c .room))
+    (λ t c. ap (λ (n : Teller). n .explainer) (fed-next t (c .piece) (c .lent) (c .room)))
+    (λ t c. ap (λ (n : Teller). n .finder) (fed-next t (c .piece) (c .lent) (c .room)))
+    finish-last short-next short-text startOf refl cs

@@ -1,8 +1,8 @@
 -- What feeding a piece of the trace answers: a teller holds the run and the unfinished line. The lent output needs 41 bytes for each byte of the
 -- piece: with less the piece is refused, number 1, and nothing changes. `called` in `proofs/Calls.antt` shows that what the pieces write, in order, is
 -- what the whole trace is told. Assumes nothing.
-use mathlib.Core.List.{List, [], _∷_, _++_}
-use Prim.Native.Nat.{ℕ, _+_, _/_, _≤_}
+use mathlib.Core.List.{List, []}
+use Prim.Native.Nat.{ℕ, _+_, _/_}
 use lib.Dec.{eqb, leb}
 use lib.ListN.{length, take}
 use Rattle.rows.specs.Choice.{IF_THEN_ELSE_}
@@ -10,6 +10,7 @@ use Rattle.pieces.specs.Lines.{linesOf}
 use Rattle.pieces.specs.Cut.{finderOf, heldOf, restOf}
 use Rattle.pieces.specs.Pieces.{handedOf}
 use Rattle.pieces.specs.Put.{putOf}
+use Rattle.pieces.specs.Calls.{Call, callsGive}
 use Rattle.why.specs.declared.Why.{Why}
 use Rattle.why.specs.declared.Explainer.{Explainer}
 use Rattle.why.specs.Explain as why
@@ -49,19 +50,16 @@ unfoldable pub finishOf : Teller → Last
 finishOf t = record { wrote = IF eqb (length (heldOf (t .finder))) 0 THEN 0 ELSE length (textOf (Why.Refused 6)); text = textOf (Why.Refused 6) }
 
 -- ---- a trace that comes in pieces, by the promises
--- one call: the piece, what the lent output holds before, and that it has 41 bytes for each byte of the piece
-pub record Call : Type 0 where
-  pub piece : List ℕ
-  pub lent : List ℕ
-  pub room : length piece ≤ length lent / most
+-- what a call gives, the first `wrote` bytes of its output, and leaves; and what the end gives
+unfoldable pub givenOf : Teller → Call most → List ℕ
+givenOf t c = take (fedOf t (c .piece) (length (c .lent)) .wrote) (outAfter t (c .piece) (c .lent))
 
-unfoldable pub piecesOf : List Call → List (List ℕ)
-piecesOf [] = []
-piecesOf (c ∷ cs) = c .piece ∷ piecesOf cs
+unfoldable pub leftOf : Teller → Call most → Teller
+leftOf t c = fedOf t (c .piece) (length (c .lent)) .teller
 
--- the first `wrote` bytes of each output, the calls one after the other, each with the teller that the call before gave; then the end
-unfoldable pub callsFrom : Teller → List Call → List ℕ
-callsFrom t [] = take (finishOf t .wrote) (finishOf t .text)
-callsFrom t (c ∷ cs) =
-    let f = fedOf t (c .piece) (length (c .lent)) in
-    take (f .wrote) (outAfter t (c .piece) (c .lent)) ++ callsFrom (f .teller) cs
+unfoldable pub lastOf : Teller → List ℕ
+lastOf t = take (finishOf t .wrote) (finishOf t .text)
+
+-- all of it
+unfoldable pub callsFrom : Teller → List (Call most) → List ℕ
+callsFrom t cs = callsGive givenOf leftOf lastOf t cs

@@ -1,0 +1,35 @@
+-- A caller whose calls answer the lines that end in each piece, and whose end answers what is carried, gives in all what it writes for the lines of the
+-- whole input, however that is cut. Assumes nothing.
+use mathlib.Core.Path.{_≡_, sym, ap, ap₂, _∙_}
+use mathlib.Core.List.{List, [], _∷_, _++_}
+use Prim.Native.Nat.{ℕ}
+use Rattle.pieces.specs.declared.Finder.{Finder}
+use Rattle.pieces.specs.Lines.{linesOf, short}
+use Rattle.pieces.specs.Cut.{finderOf, heldOf, restOf}
+use Rattle.pieces.specs.Pieces.{flat, handedOf, handedAll, stateAfter, textAfter}
+use Rattle.pieces.specs.Calls.{Call, piecesOf, callsGive}
+use Rattle.pieces.proofs.Caller.{text-append, text-whole}
+
+-- the caller's state and its finder; what a call gives and leaves, and the end
+module _ {S T : Type 0} {k : ℕ} (next : S → List ℕ → S) (text : S → List ℕ → List ℕ) (state : T → S) (finder : T → Finder)
+    (gives : T → Call k → List ℕ) (leaves : T → Call k → T) (end : T → List ℕ)
+    (given : (t : T) (c : Call k) → gives t c ≡ textAfter next text (state t) (handedOf (finder t) (c .piece)))
+    (left-state : (t : T) (c : Call k) → state (leaves t c) ≡ stateAfter next (state t) (handedOf (finder t) (c .piece)))
+    (left-finder : (t : T) (c : Call k) → finder (leaves t c) ≡ restOf (finder t) (c .piece))
+    (ended : (t : T) → end t ≡ textAfter next text (state t) (linesOf (heldOf (finder t)))) where
+  calls-handed : (t : T) (cs : List (Call k)) → callsGive gives leaves end t cs ≡ textAfter next text (state t) (handedAll (finder t) (piecesOf cs))
+  unfolding callsGive handedAll piecesOf
+  calls-handed t [] = ended t
+  calls-handed t (c ∷ cs) =
+      let h = handedOf (finder t) (c .piece) in
+      let r = restOf (finder t) (c .piece) in
+      ap₂ (λ (x y : List ℕ). x ++ y) (given t c)
+      (calls-handed (leaves t c) cs ∙ ap₂ (λ (s : S) (f : Finder). textAfter next text s (handedAll f (piecesOf cs))) (left-state t c) (left-finder t c))
+      ∙ sym (text-append next text (state t) h (handedAll r (piecesOf cs)))
+
+  -- from an empty finder on, if no more of a line is looked at than is kept
+  module _ (cap : (s : S) (l : List ℕ) → next s (short l) ≡ next s l) (capt : (s : S) (l : List ℕ) → text s (short l) ≡ text s l) where
+    pub calls-whole : (t : T) → finder t ≡ finderOf [] → (cs : List (Call k)) → callsGive gives leaves end t cs ≡ textAfter next text (state t) (linesOf (flat (piecesOf cs)))
+    calls-whole t e cs =
+        calls-handed t cs
+        ∙ (ap (λ (f : Finder). textAfter next text (state t) (handedAll f (piecesOf cs))) e ∙ text-whole next text cap capt (state t) (piecesOf cs))
