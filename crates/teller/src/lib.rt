@@ -83,7 +83,7 @@ pub fn tell(e: Explainer, line: &[u8]) -> Told
 
 // ---- its text
 
-// A number's digits, the last first.
+// A number's digits, made from the last on.
 fn digits(n: u32) -> Written
     ensures { λ r. ⌜ (r .from ≤ 9) × (drop (r .from) (r .text) ≡ decimalOf n) ⌝ }
 {

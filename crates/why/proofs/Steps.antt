@@ -1,5 +1,5 @@
 -- One frame: refused, beyond the last number, or accepted. What the proofs of `numbered` and `explain`, and the theorems, cite. Assumes nothing.
-use mathlib.Core.Path.{_≡_, sym, ap, _∙_}
+use mathlib.Core.Path.{_≡_, refl, sym, ap, subst, _∙_}
 use mathlib.Core.List.{List}
 use Prim.Native.Nat.{ℕ, _<_, _≤_}
 use native.Mathlib.Omega.{arith}
@@ -7,10 +7,12 @@ use borrow.Author.Tests.{eq-eqb, ne-eqb, le-leb, lt-leb, eqb-true, eqb-false, le
 use lib.Dec.{eqb, leb}
 use lib.IntN.{ℤ}
 use Rattle.rows.specs.Choice.{IF_THEN_ELSE_}
-use Rattle.rows.proofs.Choice.{by-yes, by-no, either}
+use Rattle.rows.proofs.Choice.{by-yes, by-no, by-test, either}
 use Rattle.detector.specs.declared.Answer.{Answer}
 use Rattle.detector.specs.Step.{refusedOf, stepOf}
 use Rattle.why.specs.declared.Explainer.{Explainer}
+use Rattle.why.specs.declared.Explained.{Explained}
+use Rattle.why.specs.Fits.{whyCase}
 use Rattle.why.specs.Explain.{limit, acceptedOf, deniedOf, numberedOf, explainedOf}
 
 module _ (e : Explainer) (a : Answer) where
@@ -52,3 +54,12 @@ module _ (e : Explainer) (L-ACF : List ℤ) (lags : List ℕ) (scalvad : ℤ) wh
   pub explained-denied : (a .refusal ≡ 0 → ⊥) → explainedOf e L-ACF lags scalvad ≡ deniedOf e a
   unfolding explainedOf
   explained-denied h = by-no _ _ (ne-eqb (a .refusal) 0 h)
+
+  -- the number of what is told is that of the answer
+  told-number : whyCase (explainedOf e L-ACF lags scalvad .why) .number ≡ explainedOf e L-ACF lags scalvad .answer .refusal
+  unfolding explainedOf acceptedOf deniedOf whyCase
+  told-number =
+      by-test (λ (x : Explained). whyCase (x .why) .number ≡ x .answer .refusal) (eqb (a .refusal) 0) (acceptedOf e a) (deniedOf e a) (λ t. sym (eqb-true (a .refusal) 0 t)) (λ t. refl)
+
+  pub with-number : (x : Explained) → x ≡ explainedOf e L-ACF lags scalvad → (x ≡ explainedOf e L-ACF lags scalvad) × (whyCase (x .why) .number ≡ x .answer .refusal)
+  with-number x i = (i, subst (λ (y : Explained). whyCase (y .why) .number ≡ y .answer .refusal) (sym i) told-number)

@@ -18,6 +18,7 @@ use Rattle.detector.specs.declared.Answer.{Answer}
 use Rattle.detector.specs.Run.{rawsOf}
 use Rattle.why.specs.declared.Flag.{Flag}
 use Rattle.why.specs.declared.Reasons.{Reasons}
+use Rattle.why.specs.declared.Why.{Why}
 
 -- ---- the cases of the two enums: the number of each in its order, and the values that it carries
 pub record Case : Type 0 where
@@ -38,6 +39,15 @@ wayCase Way.Periodic = case 2 []
 wayCase Way.Unsteady = case 3 []
 wayCase (Way.Waiting k) = case 4 (k ∷ [])
 wayCase Way.Adapted = case 5 []
+
+-- what a frame is told as a whole: document 01's number, which is 0 for an accepted frame, and the values: none for a refused one, and else the frame's
+-- number, and the number and the values of both reasons
+unfoldable pub shown : Case → List ℤ
+shown c = pos (c .number) ∷ c .values
+
+unfoldable pub whyCase : Why → Case
+whyCase (Why.Refused n) = case n []
+whyCase (Why.Because r) = case 0 (pos (r .number) ∷ (shown (flagCase (r .flag)) ++ shown (wayCase (r .threshold))))
 
 -- a reason fits if it holds and none with a lower number does
 pub record Fits {R : Type 0} (caseOf : R → Case) (Holds : R → Type 0) (reason : R) : Type 0 where

@@ -2,6 +2,7 @@
 ghost use mathlib.Core.Path.{_≡_};
 ghost use Prim.Native.Nat.{_<_};
 ghost use Rattle.why.specs.Explain as meaning;
+ghost use Rattle.why.specs.Fits.{whyCase};
 use detector::Answer;
 use hangover::BURSTCONST;
 use lags::ptch;
@@ -141,6 +142,7 @@ fn accepted(e: Explainer, a: Answer) -> Explained
 // Explains one frame, lent as to the detector.
 pub fn explain(e: Explainer, acf: &[i32], lags: &[u16], scalvad: i16) -> Explained
     ensures { λ r. ⌜ r ≡ meaning.explainedOf e (now (acf .entry)) (now (lags .entry)) scalvad ⌝ }
+    ensures { λ r. ⌜ whyCase (r .why) .number ≡ r .answer .refusal ⌝ }
 {
     let state = e.state;
     let step = detector::step(acf, lags, scalvad, state);

@@ -42,7 +42,7 @@ decoding c = c .before .before .before .before .before .before .before
 -- the reasons of what was read
 explain-is : (c : tie.After-explain)
     → c .explain .result ≡ explainedOf (decoding c .before .before .args .e) (decoding c .decode .result .acf) (decoding c .decode .result .lags) (decoding c .decode .result .scale)
-explain-is c = let f = scale-fits (decoding c) in simp zreads at (c .explain .ensures)
+explain-is c = let f = scale-fits (decoding c) in simp zreads at (c .explain .ensures .0)
 
 zero-is : (c : tie.Else1) → c .before .decode .result .refusal ≡ 0
 zero-is c = omega arith

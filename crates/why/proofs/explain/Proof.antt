@@ -6,7 +6,7 @@ use Rattle.numbers.proofs.Read.{zreads}
 use Rattle.detector.specs.declared.Answer.{Answer}
 use Rattle.detector.specs.Step.{stepOf}
 use Rattle.why.specs.Explain.{numberedOf, acceptedOf, deniedOf}
-use Rattle.why.proofs.Steps.{numbered-left, explained-accepted, explained-denied}
+use Rattle.why.proofs.Steps.{numbered-left, explained-accepted, explained-denied, with-number}
 use Rattle.why.proofs.explain.Statement.{statement}
 use Rattle.why.proofs.explain.Tie as tie
 
@@ -29,8 +29,9 @@ unfolding deniedOf
 returns c =
     let s = c .before .before .before .before .before in
     let i = answer-is (c .before) in
-    ap (deniedOf (s .args .e)) i
-    ∙ sym (explained-denied (s .args .e) (s .args .acf .now) (s .args .lags .now) (s .args .scalvad) (λ z. c .if1 .taken (ap (λ (a : Answer). a .refusal) i ∙ z)))
+    with-number (s .args .e) (s .args .acf .now) (s .args .lags .now) (s .args .scalvad) _
+    (ap (deniedOf (s .args .e)) i
+    ∙ sym (explained-denied (s .args .e) (s .args .acf .now) (s .args .lags .now) (s .args .scalvad) (λ z. c .if1 .taken (ap (λ (a : Answer). a .refusal) i ∙ z))))
 
 zero : (c : tie.Else1) → c .before .numbered .result .refusal ≡ 0
 zero c = omega (arith, c .if1 .left)
@@ -45,9 +46,10 @@ returns-2 c =
     let u = c .before in
     let s = u .before .before .before .before .before in
     let i = answer-is (u .before) in
-    c .accepted .ensures
+    with-number (s .args .e) (s .args .acf .now) (s .args .lags .now) (s .args .scalvad) _
+    (c .accepted .ensures
     ∙ (ap (acceptedOf (s .args .e)) i
-    ∙ sym (explained-accepted (s .args .e) (s .args .acf .now) (s .args .lags .now) (s .args .scalvad) (ap (λ (a : Answer). a .refusal) (sym i) ∙ zero u)))
+    ∙ sym (explained-accepted (s .args .e) (s .args .acf .now) (s .args .lags .now) (s .args .scalvad) (ap (λ (a : Answer). a .refusal) (sym i) ∙ zero u))))
 
 pub explain-spec : {M : Type 1} → statement M
 explain-spec =
