@@ -2,3 +2,4 @@ pub mod Table
 pub mod Keeps
 pub mod Frames
 pub mod Run
+pub mod Sentence

@@ -1,3 +1,5 @@
 pub mod Refusal
 pub mod Step
 pub mod Run
+pub mod Sentence
+pub mod Worked

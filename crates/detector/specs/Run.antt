@@ -29,6 +29,9 @@ acceptedFrom s (f ∷ fs) =
     let r = answerTo s f in
     IF eqb (r .refusal) 0 THEN r ∷ acceptedFrom (r .next) fs ELSE acceptedFrom (r .next) fs
 
--- the raw flags of answers
+-- the flags of answers, and the raw flags
+unfoldable pub flagsOf : List Answer → List Bool
+flagsOf rs = map (λ (r : Answer). r .vad) rs
+
 unfoldable pub rawsOf : List Answer → List Bool
 rawsOf rs = map (λ (r : Answer). r .vvad) rs

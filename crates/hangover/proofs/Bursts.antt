@@ -1,9 +1,10 @@
 -- Clause 6.8 with its two lengths as parameters, a burst of B frames and a tail of T, frame after frame; the clause has 3 and 5. The counts are what
 -- the raw flags so far make them: how many in a row are raw speech, and how much of the tail is left since the latest burst ended. So burstcount tells
--- whether a burst ended at a frame, and a frame that the hangover holds has a latest burst. Assumes nothing.
+-- whether a burst ended at a frame, and the flag is what the sentence says: raw speech, or a burst that ended at one of the T frames before. Assumes nothing.
 use mathlib.Core.Path.{_≡_, refl, sym, ap, ap₂, subst, _∙_}
 use mathlib.Core.Bool.{Bool, true, false, _||_}
 use mathlib.Core.List.{List, [], _∷_, _++_}
+use mathlib.Core.Logic.{_↔_, _⊎_, inl, inr, ⊎-elim}
 use Prim.Native.Nat.{ℕ, zero, suc, _+_, _-_, _<_, _≤_, min}
 use native.Mathlib.Omega.{arith}
 use borrow.Author.Tests.{le-leb, lt-leb, leb-true, leb-false}
@@ -17,10 +18,11 @@ use Rattle.numbers.proofs.Parts.{zarith, plus, minus}
 use Rattle.operations.specs.Operations.{sub}
 use Rattle.operations.proofs.Laws.{add-exact, sub-exact}
 use Rattle.rows.specs.Choice.{IF_THEN_ELSE_}
-use Rattle.rows.proofs.Choice.{by-test, by-no, either}
+use Rattle.rows.proofs.Choice.{by-test, by-yes, by-no, either}
 use Rattle.hangover.specs.declared.Hung.{Hung}
 use Rattle.hangover.specs.Hangover.{burstOf, runDownOf, startedOf, hangoverOf}
-use Rattle.hangover.specs.Bursts.{rawAt, Ended, Latest}
+use Rattle.hangover.specs.Bursts.{byPlace, Ended, Latest}
+use Rattle.hangover.specs.Sentence.{Before, EndedBefore}
 
 -- ---- the clause, and frame after frame from reset: what the first i frames leave, and the flag of frame i
 unfoldable pub startedWith : ℤ → ℤ → Bool → ℤ → ℤ → Hung
@@ -148,6 +150,28 @@ module _ (B T : ℕ) (raw : ℕ → Bool) where
       go true e q = let k = leb-true 1 (latestAt B raw i) e in (k, omega arith)
       go false e q = absurd (omega arith)
 
+  left-back : (i : ℕ) → 1 ≤ latestAt B raw i → i + 1 ≤ T + latestAt B raw i → 1 ≤ leftAt B T raw i
+  left-back i h k = rw (left-latest i ∙ by-yes _ _ (le-leb 1 (latestAt B raw i) h)) (omega arith)
+
+  -- some is left exactly if a burst ended at one of the T frames before: then the latest did
+  latest-near : (i : ℕ) → EndedBefore B T raw i → (1 ≤ latestAt B raw i) × (i + 1 ≤ T + latestAt B raw i)
+  unfolding EndedBefore Before
+  latest-near i (j, (before, near), ended) =
+      let n = latestAt B raw i in
+      either ((1 ≤ n) × (i + 1 ≤ T + n)) (leb n j)
+      (λ t. absurd (latest-is B raw i .none-after j (leb-true n j t) before ended))
+      (λ t. let a = leb-false n j t in (omega arith, omega arith))
+
+  left-ended : (i : ℕ) → 1 ≤ leftAt B T raw i → EndedBefore B T raw i
+  unfolding EndedBefore Before
+  left-ended i h =
+      let y = left-yes i h in
+      let l = latest-is B raw i in
+      (latestAt B raw i - 1, (let a = l .among in omega arith, omega arith), l .ended (omega arith))
+
+  ended-left : (i : ℕ) → EndedBefore B T raw i → 1 ≤ leftAt B T raw i
+  ended-left i h = let n = latest-near i h in left-back i (n .0) (n .1)
+
 -- ---- the counts are these
 abbrev count : ℕ → ℤ
 count zero = negsuc 0
@@ -255,17 +279,36 @@ module _ (B T : ℕ) (one : 1 ≤ B) (p : B ≤ 39) (q : T ≤ 39) where
     burst-raw : (i : ℕ) → B ≤ leadAt raw (suc i) → raw i ≡ true
     burst-raw i h = let q : i - 0 ≡ i = omega arith in ap raw (sym q) ∙ lead-each raw i 0 (omega arith)
 
-    -- ---- the flag of a frame that is not raw speech: the latest burst ended no more than T frames before it
+    -- ---- the sentence
+    says : (i : ℕ) (v : Bool) → raw i ≡ v → v || leb 1 (leftAt B T raw i) ≡ true → (raw i ≡ true) ⊎ EndedBefore B T raw i
+    says i true e h = inl e
+    says i false e h = inr (left-ended B T raw i (leb-true 1 (leftAt B T raw i) h))
+
+    flag-says : (i : ℕ) → flagAt B T raw i ≡ true → (raw i ≡ true) ⊎ EndedBefore B T raw i
+    flag-says i h =
+        either ((raw i ≡ true) ⊎ EndedBefore B T raw i) (leb B (leadAt raw (suc i)))
+        (λ t. inl (burst-raw i (leb-true B (leadAt raw (suc i)) t)))
+        (λ t. says i (raw i) refl (sym (by-no _ _ t) ∙ (sym (flag-is i) ∙ h)))
+
+    flag-up : (i : ℕ) → raw i || leb 1 (leftAt B T raw i) ≡ true → flagAt B T raw i ≡ true
+    flag-up i h = flag-is i ∙ by-test (λ (x : Bool). x ≡ true) (leb B (leadAt raw (suc i))) _ _ (λ t. refl) (λ t. h)
+
+    says-flag : (i : ℕ) → (raw i ≡ true) ⊎ EndedBefore B T raw i → flagAt B T raw i ≡ true
+    says-flag i (inl e) = flag-up i (ap (λ (v : Bool). v || leb 1 (leftAt B T raw i)) e)
+    says-flag i (inr h) = flag-up i (ap (λ (v : Bool). raw i || v) (le-leb 1 (leftAt B T raw i) (ended-left B T raw i h)) ∙ or-true (raw i))
+
+    pub sentence : (i : ℕ) → (flagAt B T raw i ≡ true) ↔ ((raw i ≡ true) ⊎ EndedBefore B T raw i)
+    sentence i = (flag-says i, says-flag i)
+
+    -- ---- so a frame that is not raw speech has its latest burst no more than T frames before it
+    pub held-by : (i : ℕ) → raw i ≡ false → flagAt B T raw i ≡ true → (1 ≤ latestAt B raw i) × (i + 1 ≤ T + latestAt B raw i)
+    held-by i e h = ⊎-elim (λ r. absurd (subst dec.T (sym r ∙ e) tt)) (latest-near B T raw i) (sentence i .0 h)
+
     no-burst : (i : ℕ) → raw i ≡ false → leb B (leadAt raw (suc i)) ≡ false
     no-burst i e =
         either (leb B (leadAt raw (suc i)) ≡ false) (leb B (leadAt raw (suc i)))
         (λ t. absurd (subst dec.T (sym (burst-raw i (leb-true B (leadAt raw (suc i)) t)) ∙ e) tt))
         (λ t. t)
-
-    pub held-by : (i : ℕ) → raw i ≡ false → flagAt B T raw i ≡ true → (1 ≤ latestAt B raw i) × (i + 1 ≤ T + latestAt B raw i)
-    held-by i e h =
-        let k : raw i || leb 1 (leftAt B T raw i) ≡ true = sym (by-no _ _ (no-burst i e)) ∙ (sym (flag-is i) ∙ h) in
-        left-yes B T raw i (leb-true 1 (leftAt B T raw i) (ap (λ (v : Bool). v || leb 1 (leftAt B T raw i)) (sym e) ∙ k))
 
     -- and it completes none itself
     pub latest-quiet : (i : ℕ) → raw i ≡ false → latestAt B raw (suc i) ≡ latestAt B raw i
@@ -313,20 +356,25 @@ module _ (raw raw′ : ℕ → Bool) where
 -- ---- one flag more at the end of a list
 module _ (raws : List Bool) (v : Bool) where
   abbrev more : ℕ → Bool
-  more = rawAt (raws ++ (v ∷ []))
+  more = byPlace (raws ++ (v ∷ []))
 
   pub more-last : more (length raws) ≡ v
-  unfolding rawAt
+  unfolding byPlace
   more-last = getD-append-seam raws v [] false
 
-  before : (j : ℕ) → j < length raws → more j ≡ rawAt raws j
-  unfolding rawAt
-  before j h = List·getD-append raws (v ∷ []) false j h
+  pub more-before : (j : ℕ) → j < length raws → more j ≡ byPlace raws j
+  unfolding byPlace
+  more-before j h = List·getD-append raws (v ∷ []) false j h
 
-  pub more-hung : (B T : ℕ) → hungAt B T more (suc (length raws)) ≡ hangoverWith (pos B) (pos T) v (hungAt B T (rawAt raws) (length raws) .burstcount) (hungAt B T (rawAt raws) (length raws) .hangcount)
+  pub more-hung : (B T : ℕ) → hungAt B T more (suc (length raws)) ≡ hangoverWith (pos B) (pos T) v (hungAt B T (byPlace raws) (length raws) .burstcount) (hungAt B T (byPlace raws) (length raws) .hangcount)
   unfolding hungAt
   more-hung B T =
-      ap₂ (λ (u : Bool) (x : Hung). hangoverWith (pos B) (pos T) u (x .burstcount) (x .hangcount)) more-last (hung-same more (rawAt raws) B T (length raws) before)
+      ap₂ (λ (u : Bool) (x : Hung). hangoverWith (pos B) (pos T) u (x .burstcount) (x .hangcount)) more-last (hung-same more (byPlace raws) B T (length raws) more-before)
 
-  pub more-latest : (B : ℕ) → latestAt B more (length raws) ≡ latestAt B (rawAt raws) (length raws)
-  more-latest B = latest-same more (rawAt raws) B (length raws) before
+  pub more-latest : (B : ℕ) → latestAt B more (length raws) ≡ latestAt B (byPlace raws) (length raws)
+  more-latest B = latest-same more (byPlace raws) B (length raws) more-before
+
+  -- and the flags of the frames before stay
+  pub more-flag : (B T i : ℕ) → i < length raws → flagAt B T more i ≡ flagAt B T (byPlace raws) i
+  unfolding flagAt
+  more-flag B T i h = ap (λ (x : Hung). x .vad) (hung-same more (byPlace raws) B T (suc i) (λ j k. more-before j (omega arith)))

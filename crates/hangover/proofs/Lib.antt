@@ -1,2 +1,4 @@
 pub mod Kept
 pub mod Bursts
+pub mod Sentence
+pub mod Instances

@@ -6,9 +6,9 @@ use mathlib.Core.List.{List}
 use Prim.Native.Nat.{ℕ, _+_, _-_, _<_, _≤_}
 use lib.ListN.{getD}
 
--- the raw flags as a list, in the order of the frames
-unfoldable pub rawAt : List Bool → ℕ → Bool
-rawAt raws i = getD raws i false
+-- flags in the order of the frames, by a frame's place
+unfoldable pub byPlace : List Bool → ℕ → Bool
+byPlace flags i = getD flags i false
 
 -- a burst ended at frame j: raw speech there and in the B - 1 frames before it, all of them in the run
 pub record Ended (B : ℕ) (raw : ℕ → Bool) (j : ℕ) : Type 0 where

@@ -1,2 +1,3 @@
 pub mod Hangover
 pub mod Bursts
+pub mod Sentence

@@ -6,14 +6,14 @@ use mathlib.Core.List.{List, [], _∷_, _++_, append-assoc, append-nil}
 use mathlib.Core.Logic.{_↔_}
 use Prim.Native.Nat.{ℕ, suc, _+_, _<_, _≤_}
 use native.Mathlib.Omega.{arith}
-use borrow.Author.Tests.{eq-eqb, ne-eqb, eqb-true, eqb-false}
+use borrow.Author.Tests.{eqb-true, eqb-false}
 use lib.Dec.{eqb}
 use lib.IntN.{ℤ, pos}
 use lib.ListN.{length, length-append}
 use lib.Signed.{leZ}
 use Rattle.rows.specs.Choice.{IF_THEN_ELSE_}
-use Rattle.rows.proofs.Choice.{by-yes, by-no, either}
-use Rattle.hangover.specs.Bursts.{rawAt, Latest}
+use Rattle.rows.proofs.Choice.{either}
+use Rattle.hangover.specs.Bursts.{byPlace, Latest}
 use Rattle.hangover.proofs.Bursts.{hungAt, latestAt, latest-is, latest-next, latest-quiet, held-by, more-last, more-latest}
 use Rattle.threshold.specs.declared.Way.{Way}
 use Rattle.state.specs.declared.State.{State}
@@ -21,8 +21,7 @@ use Rattle.state.specs.Valid.{resetOf}
 use Rattle.detector.specs.declared.Answer.{Answer}
 use Rattle.detector.specs.Step.{refusedOf}
 use Rattle.detector.specs.Run.{Frame, answerTo, stateFrom, acceptedFrom, rawsOf}
-use Rattle.detector.proofs.Run.{Hangs, step-hangs, Counted, counted-start, flag-more, burst-more, counted-more}
-use Rattle.detector.proofs.Table.{refused-answer, accepted-number}
+use Rattle.detector.proofs.Run.{Hangs, step-hangs, Counted, counted-start, flag-more, burst-more, counted-more, raws-length, raws-more, accepted-more, refused-more, as-given}
 use Rattle.why.specs.declared.Flag.{Flag}
 use Rattle.why.specs.declared.Reasons.{Reasons}
 use Rattle.why.specs.declared.Why.{Why}
@@ -33,17 +32,6 @@ use Rattle.why.specs.Fits.{Fitting}
 use Rattle.why.specs.Asked.{explainedTo, explainerFrom, explainer, count, answer, FittingAt, Explains, Denies, Asked}
 use Rattle.why.proofs.Steps.{numbered-refused, numbered-beyond, numbered-within, explained-accepted, explained-denied}
 use Rattle.why.proofs.Fits.{flag-fits, flag-only, way-fits, way-only}
-
--- ---- the raw flags of answers
-raws-length : (rs : List Answer) → length (rawsOf rs) ≡ length rs
-unfolding rawsOf
-raws-length [] = refl
-raws-length (r ∷ rs) = ap suc (raws-length rs)
-
-raws-more : (rs : List Answer) (r : Answer) → rawsOf (rs ++ (r ∷ [])) ≡ rawsOf rs ++ (r .vvad ∷ [])
-unfolding rawsOf
-raws-more [] r = refl
-raws-more (q ∷ rs) r = ap (λ (l : List Bool). q .vvad ∷ l) (raws-more rs r)
 
 -- ---- a flag that is explained by the hangover
 abbrev Unheld : Flag → Type 0
@@ -88,16 +76,11 @@ module _ (e : Explainer) (f : Frame) where
       let n = numbered-refused e a h in
       explained-denied e (f .L-ACF) (f .lags) (f .scalvad) (λ z. h (sym (ap (λ (r : Answer). r .refusal) n) ∙ z)) ∙ ap (deniedOf e) n
 
-  -- what the detector refuses leaves its state
-  as-given : (a .refusal ≡ 0 → ⊥) → a .next ≡ e .state
-  unfolding answerTo
-  as-given h = refused-answer (f .L-ACF) (f .lags) (f .scalvad) (e .state) (λ z. h (accepted-number (f .L-ACF) (f .lags) (f .scalvad) (e .state) z)) .as-given
-
 -- ---- a run: rs are the answers to the frames that were accepted
 record Holding (rs : List Answer) (e : Explainer) : Type 0 where
   counted : Counted (rawsOf rs) (e .state)
   number : e .number ≡ length (rawsOf rs)
-  latest : e .latest ≡ latestAt 3 (rawAt (rawsOf rs)) (length (rawsOf rs))
+  latest : e .latest ≡ latestAt 3 (byPlace (rawsOf rs)) (length (rawsOf rs))
 
 -- an accepted frame more
 module _ (rs : List Answer) (e : Explainer) (f : Frame) (h : Holding rs e) (ok : answerTo (e .state) f .refusal ≡ 0) where
@@ -116,23 +99,23 @@ module _ (rs : List Answer) (e : Explainer) (f : Frame) (h : Holding rs e) (ok :
   hangs : Hangs (e .state) r
   hangs = step-hangs (e .state) f ok
 
-  latest-by : now ≡ (IF leZ (pos 3) (hungAt 3 5 (rawAt more) (suc (length raws)) .burstcount) THEN suc (length raws) ELSE latestAt 3 (rawAt more) (length raws))
+  latest-by : now ≡ (IF leZ (pos 3) (hungAt 3 5 (byPlace more) (suc (length raws)) .burstcount) THEN suc (length raws) ELSE latestAt 3 (byPlace more) (length raws))
   unfolding latestAfter
   latest-by =
       let n : e .number + 1 ≡ suc (length raws) = let k = h .number in omega arith in
       ap (λ (b : ℤ). IF leZ (pos 3) b THEN e .number + 1 ELSE e .latest) (burst-more raws (e .state) r (h .counted) hangs)
-      ∙ ap₂ (λ (k l : ℕ). IF leZ (pos 3) (hungAt 3 5 (rawAt more) (suc (length raws)) .burstcount) THEN k ELSE l) n (h .latest ∙ sym (more-latest raws (r .vvad) 3))
+      ∙ ap₂ (λ (k l : ℕ). IF leZ (pos 3) (hungAt 3 5 (byPlace more) (suc (length raws)) .burstcount) THEN k ELSE l) n (h .latest ∙ sym (more-latest raws (r .vvad) 3))
 
-  latest-now : now ≡ latestAt 3 (rawAt more) (suc (length raws))
-  latest-now = latest-by ∙ sym (latest-next 3 5 (omega arith) (omega arith) (omega arith) (rawAt more) (length raws))
+  latest-now : now ≡ latestAt 3 (byPlace more) (suc (length raws))
+  latest-now = latest-by ∙ sym (latest-next 3 5 (omega arith) (omega arith) (omega arith) (byPlace more) (length raws))
 
   -- where the hangover holds the flag up there is one, at one of the five frames before
   held : r .vvad ≡ false → r .vad ≡ true → (0 < now) × (now < e .number + 1) × (e .number + 1 ≤ now + 5)
   held v w =
       let not-raw = more-last raws (r .vvad) ∙ v in
-      let k = held-by 3 5 (omega arith) (omega arith) (omega arith) (rawAt more) (length raws) not-raw (sym (flag-more raws (e .state) r (h .counted) hangs) ∙ w) in
-      let l = latest-quiet 3 5 (omega arith) (omega arith) (omega arith) (rawAt more) (length raws) not-raw in
-      let m = latest-is 3 (rawAt more) (length raws) .among in
+      let k = held-by 3 5 (omega arith) (omega arith) (omega arith) (byPlace more) (length raws) not-raw (sym (flag-more raws (e .state) r (h .counted) hangs) ∙ w) in
+      let l = latest-quiet 3 5 (omega arith) (omega arith) (omega arith) (byPlace more) (length raws) not-raw in
+      let m = latest-is 3 (byPlace more) (length raws) .among in
       let n = h .number in
       let q = latest-now in
       (omega arith, omega arith, omega arith)
@@ -140,10 +123,10 @@ module _ (rs : List Answer) (e : Explainer) (f : Frame) (h : Holding rs e) (ok :
   length-more : suc (length raws) ≡ length more
   length-more = let l = length-append raws (r .vvad ∷ []) in omega arith
 
-  latest-so : Latest 3 (rawAt (rawsOf (rs ++ (r ∷ [])))) (length (rawsOf (rs ++ (r ∷ [])))) now
+  latest-so : Latest 3 (byPlace (rawsOf (rs ++ (r ∷ [])))) (length (rawsOf (rs ++ (r ∷ [])))) now
   latest-so =
-      subst (λ (l : List Bool). Latest 3 (rawAt l) (length l) now) (sym (raws-more rs r))
-      (subst (λ (n : ℕ). Latest 3 (rawAt more) (length more) n) (sym (latest-now ∙ ap (latestAt 3 (rawAt more)) length-more)) (latest-is 3 (rawAt more) (length more)))
+      subst (λ (l : List Bool). Latest 3 (byPlace l) (length l) now) (sym (raws-more rs r))
+      (subst (λ (n : ℕ). Latest 3 (byPlace more) (length more) n) (sym (latest-now ∙ ap (latestAt 3 (byPlace more)) length-more)) (latest-is 3 (byPlace more) (length more)))
 
   holding-more : Holding (rs ++ (r ∷ [])) (acceptedOf e r .next)
   unfolding acceptedOf
@@ -152,7 +135,7 @@ module _ (rs : List Answer) (e : Explainer) (f : Frame) (h : Holding rs e) (ok :
       record {
         counted = subst (λ (l : List Bool). Counted l (r .next)) (sym (raws-more rs r)) (counted-more raws (e .state) r (h .counted) hangs);
         number = n ∙ ap length (sym (raws-more rs r));
-        latest = latest-now ∙ (ap (latestAt 3 (rawAt more)) length-more ∙ ap (λ (l : List Bool). latestAt 3 (rawAt l) (length l)) (sym (raws-more rs r)));
+        latest = latest-now ∙ (ap (latestAt 3 (byPlace more)) length-more ∙ ap (λ (l : List Bool). latestAt 3 (byPlace l) (length l)) (sym (raws-more rs r)));
       }
 
   -- the reasons that are answered
@@ -191,14 +174,6 @@ record Ran (rs : List Answer) (s : State) (e : Explainer) : Type 0 where
   holding : Holding rs e
   state : e .state ≡ s
 
-pub accepted-more : (s : State) (f : Frame) (fs : List Frame) → answerTo s f .refusal ≡ 0 → acceptedFrom s (f ∷ fs) ≡ answerTo s f ∷ acceptedFrom (answerTo s f .next) fs
-unfolding acceptedFrom
-accepted-more s f fs h = by-yes _ _ (eq-eqb (answerTo s f .refusal) 0 h)
-
-refused-more : (s : State) (f : Frame) (fs : List Frame) → (answerTo s f .refusal ≡ 0 → ⊥) → acceptedFrom s (f ∷ fs) ≡ acceptedFrom (answerTo s f .next) fs
-unfolding acceptedFrom
-refused-more s f fs h = by-no _ _ (ne-eqb (answerTo s f .refusal) 0 h)
-
 same-run : {rs rs′ : List Answer} {s s′ : State} {e e′ : Explainer} → rs ≡ rs′ → s ≡ s′ → e ≡ e′ → Ran rs s e → Ran rs′ s′ e′
 same-run {rs} {rs′} {s} {s′} {e} {e′} p q z r = subst (λ (x : Explainer). Ran rs′ s′ x) z (subst (λ (x : State). Ran rs′ x e) q (subst (λ (x : List Answer). Ran x s e) p r))
 
@@ -223,7 +198,7 @@ runs (f ∷ fs) rs e h l =
     (runs fs (rs ++ (a ∷ [])) (acceptedOf e a .next) (holding-more rs e f h ok) (omega arith)))
     (λ t.
     let not-0 = eqb-false (a .refusal) 0 t in
-    let g = as-given e f not-0 in
+    let g = as-given (e .state) f not-0 in
     let m = refused-more (e .state) f fs not-0 ∙ ap (λ (s : State). acceptedFrom s fs) g in
     let n = ap length m in
     same-run

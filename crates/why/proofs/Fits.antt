@@ -14,7 +14,7 @@ use Rattle.rows.specs.Choice.{IF_THEN_ELSE_}
 use Rattle.rows.proofs.Choice.{either}
 use Rattle.pairs.specs.Pairs.{greaterOf}
 use Rattle.lags.specs.Lags.{ptchOf}
-use Rattle.hangover.specs.Bursts.{rawAt, Latest}
+use Rattle.hangover.specs.Bursts.{byPlace, Latest}
 use Rattle.hangover.proofs.Bursts.{latest-only}
 use Rattle.threshold.specs.declared.Way.{Way}
 use Rattle.threshold.specs.Threshold.{PTH}
@@ -41,14 +41,14 @@ differ : {b : Bool} → b ≡ true → b ≡ false → ⊥
 differ p q = subst T (sym p ∙ q) tt
 
 -- ---- the flag, with l the latest frame that completed a burst
-module _ (raws : List Bool) (a : Answer) (l : ℕ) (latest : Latest 3 (rawAt raws) (length raws) l) where
+module _ (raws : List Bool) (a : Answer) (l : ℕ) (latest : Latest 3 (byPlace raws) (length raws) l) where
   abbrev flagNamed : ℕ → Flag
   flagNamed n = IF eqb n 1 THEN Flag.Energy ELSE IF eqb n 2 THEN Flag.Hangover l ELSE Flag.Quiet
 
   flag-known : (r : Flag) → FlagHolds raws a r → r ≡ flagNamed (flagCase r .number)
   unfolding FlagHolds flagCase IF_THEN_ELSE_
   flag-known Flag.Energy h = refl
-  flag-known (Flag.Hangover n) h = ap (λ (k : ℕ). Flag.Hangover k) (latest-only 3 (rawAt raws) (h .2) latest)
+  flag-known (Flag.Hangover n) h = ap (λ (k : ℕ). Flag.Hangover k) (latest-only 3 (byPlace raws) (h .2) latest)
   flag-known Flag.Quiet h = refl
 
   -- no reason with a lower number holds

@@ -12,12 +12,13 @@ use Rattle.state.proofs.Facts.{reset-valid, reset-shaped}
 use Rattle.detector.specs.Refusal.{lengthsOk, scaleOk, acfOk, lagsOk, frameRefusalOf, refusalOf}
 use Rattle.detector.specs.Step.{refusedOf}
 use Rattle.detector.specs.Run.{answerTo, stateFrom, acceptedFrom}
+use Rattle.detector.specs.Worked.{quiet}
 use Rattle.detector.proofs.Table.{accepted-number}
 use Rattle.detector.proofs.Keeps.{Numbers, zeros-fit, step-keeps}
+use Rattle.detector.proofs.Run.{accepted-more}
 use Rattle.why.specs.Explain.{limit}
 use Rattle.why.specs.Asked.{count, Denies}
-use Rattle.why.specs.Worked.{quiet}
-use Rattle.why.proofs.Asked.{accepted-more, asked}
+use Rattle.why.proofs.Asked.{asked}
 
 numbers : Numbers (quiet .L-ACF)
 numbers zero = record { sfits = omega arith }

@@ -9,7 +9,7 @@ use lib.ListN.{length}
 use lib.Signed.{_≤ℤ_, _<ℤ_}
 use Rattle.pairs.specs.Pairs.{greaterOf}
 use Rattle.lags.specs.Lags.{ptchOf}
-use Rattle.hangover.specs.Bursts.{rawAt, Latest}
+use Rattle.hangover.specs.Bursts.{byPlace, Latest}
 use Rattle.threshold.specs.declared.Way.{Way}
 use Rattle.threshold.specs.Threshold.{PTH}
 use Rattle.threshold.specs.Ways.{risenOf}
@@ -59,7 +59,7 @@ pub record Fits {R : Type 0} (caseOf : R → Case) (Holds : R → Type 0) (reaso
 -- of the flag: a is the answer to an accepted frame, and `raws` are the raw flags of all accepted frames up to it
 unfoldable pub FlagHolds : List Bool → Answer → Flag → Type 0
 FlagHolds raws a Flag.Energy = a .vvad ≡ true
-FlagHolds raws a (Flag.Hangover n) = (a .vad ≡ true) × (0 < n) × Latest 3 (rawAt raws) (length raws) n
+FlagHolds raws a (Flag.Hangover n) = (a .vad ≡ true) × (0 < n) × Latest 3 (byPlace raws) (length raws) n
 FlagHolds raws a Flag.Quiet = a .vad ≡ false
 
 -- of the threshold: s is the state at entry, and a the answer

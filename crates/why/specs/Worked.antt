@@ -3,7 +3,6 @@ use mathlib.Core.Path.{_≡_, refl}
 use mathlib.Core.List.{[], _∷_}
 use Prim.Native.Nat.{ℕ}
 use lib.Count.{leadingZeros}
-use lib.IntN.{ℤ, pos}
 use Rattle.numbers.specs.Sum.{total}
 use Rattle.numbers.specs.Clamp.{clamp}
 use Rattle.numbers.specs.Floor.{residue}
@@ -22,26 +21,12 @@ use Rattle.lags.specs.Lags.{ptchOf, smallagOf, countedOf, onceOf, lagcountOf}
 use Rattle.state.specs.Valid.{pointerOk, sacfWithin, sacfOk, sav0Ok, weightOf, rvadOk, thvadOk, lagOk, countsOk, validOf, resetOf}
 use Rattle.detector.specs.Refusal.{lengthsOk, scaleOk, acfOk, lagsOk, frameRefusalOf, refusalOf}
 use Rattle.detector.specs.Step.{spectralOf, movedOf, acceptedOf, refusedOf, stepOf}
-use Rattle.detector.specs.Run.{Frame}
+use Rattle.detector.specs.Worked.{loud, quiet, bad}
 use Rattle.why.specs.declared.Flag.{Flag}
 use Rattle.why.specs.declared.Why.{Why}
 use Rattle.why.specs.declared.Explainer.{Explainer}
 use Rattle.why.specs.Explain as explain
 use Rattle.why.specs.Asked.{explainedTo, explainerFrom, told}
-
--- L_ACF is x and then zeros, at scale 0, with four lags of 40
-abbrev pub frame : ℤ → Frame
-frame x = record { L-ACF = x ∷ pos 0 ∷ pos 0 ∷ pos 0 ∷ pos 0 ∷ pos 0 ∷ pos 0 ∷ pos 0 ∷ pos 0 ∷ []; lags = 40 ∷ 40 ∷ 40 ∷ 40 ∷ []; scalvad = pos 0 }
-
-abbrev pub loud : Frame
-loud = frame (pos 100000)
-
-abbrev pub quiet : Frame
-quiet = frame (pos 1)
-
--- with a first lag of 0: refusal 4
-abbrev pub bad : Frame
-bad = record { L-ACF = loud .L-ACF; lags = 0 ∷ 40 ∷ 40 ∷ 40 ∷ []; scalvad = pos 0 }
 
 abbrev because : ℕ → Flag → Way → Why
 because n f w = Why.Because (record { number = n; flag = f; threshold = w })
