@@ -8,3 +8,4 @@ pub mod Puts
 pub mod Answers
 pub mod RoundTrip
 pub mod Malformed
+pub mod Whole

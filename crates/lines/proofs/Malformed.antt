@@ -1,42 +1,35 @@
 -- Lines that are malformed: one of another length than 82 bytes, and one that lacks its line feed. So of a line that comes in pieces its first bytes
 -- are enough, and one that the end of the input cuts is refused with 6. Assumes nothing.
 use mathlib.Core.Path.{_≡_, sym, ap, _∙_}
-use mathlib.Core.Bool.{true, false}
+use mathlib.Core.Bool.{false}
 use mathlib.Core.List.{List}
 use Prim.Native.Nat.{ℕ}
 use native.Mathlib.Omega.{arith}
-use borrow.Author.Tests.{eqb-true, leb-true, leb-false}
-use lib.Dec.{eqb, leb}
-use lib.ListN.{length, take, getD, length-take}
+use borrow.Author.Tests.{leb-true, leb-false}
+use lib.Dec.{leb}
+use lib.ListN.{length, take, length-take}
 use lib.Seq.{take-all}
-use Rattle.rows.specs.Rows.{all}
-use Rattle.rows.proofs.Choice.{and-left, and-right, by-no, either}
+use Rattle.rows.proofs.Choice.{by-no, either}
 use Rattle.pieces.specs.Lines.{plainOf, short, kept}
 use Rattle.pieces.proofs.Found.{plain-at}
-use Rattle.lines.specs.Hex.{hexOf}
 use Rattle.lines.specs.Line.{LINE, DIGITS, formedOf}
 use Rattle.lines.specs.Answers.{refusedOf, decodedOf}
+use Rattle.lines.proofs.Fields.{formed}
 
 module _ (l : List ℕ) where
   malformed : formedOf l ≡ false → decodedOf l ≡ refusedOf 6
   unfolding decodedOf
   malformed t = by-no _ _ t
 
-  formed-feed : formedOf l ≡ true → (length l ≡ LINE) × (getD l DIGITS 0 ≡ 10)
-  unfolding formedOf
-  formed-feed t =
-      let u = and-right (eqb (length l) LINE) _ t in
-      (eqb-true (length l) LINE (and-left (eqb (length l) LINE) _ t), eqb-true (getD l DIGITS 0) 10 (and-right (all hexOf (take DIGITS l)) _ u))
-
   -- another length
   pub decoded-long : (length l ≡ LINE → ⊥) → decodedOf l ≡ refusedOf 6
-  decoded-long h = either (decodedOf l ≡ refusedOf 6) (formedOf l) (λ t. absurd (h (formed-feed t .0))) malformed
+  decoded-long h = either (decodedOf l ≡ refusedOf 6) (formedOf l) (λ t. absurd (h (formed l t .size))) malformed
 
   -- no line feed in it
   pub decoded-cut : plainOf l ≡ length l → decodedOf l ≡ refusedOf 6
   decoded-cut p =
       either (decodedOf l ≡ refusedOf 6) (formedOf l)
-      (λ t. let f = formed-feed t in let n = f .0 in let h = plain-at l DIGITS (omega arith) (f .1) in absurd (omega arith))
+      (λ t. let f = formed l t in let n = f .size in let h = plain-at l DIGITS (omega arith) (f .feed) in absurd (omega arith))
       malformed
 
 -- its first bytes are enough

@@ -6,6 +6,7 @@ use borrow.Author.Tests.{eqb-true, eqb-false}
 use lib.Dec.{eqb}
 use Rattle.rows.proofs.Choice.{by-yes, by-no, either}
 use Rattle.lines.specs.Answers.{decodedOf}
+use Rattle.lines.specs.Frames.{frameIn, framesOf}
 use Rattle.pieces.specs.Pieces.{stateAfter}
 use Rattle.why.specs.declared.Why.{Why}
 use Rattle.why.specs.declared.Explainer.{Explainer}
@@ -13,7 +14,6 @@ use Rattle.why.specs.Explain.{startOf}
 use Rattle.why.specs.Asked.{explainedTo, explainerFrom, told}
 use Rattle.teller.specs.declared.Told.{Told}
 use Rattle.teller.specs.Run.{sentOf, deniedOf, toldOf, nextOf, explainerOf}
-use Rattle.teller.specs.Frames.{frameIn, framesOf}
 use Rattle.teller.proofs.Steps.{told-no, told-ok}
 
 -- the run that lines leave is that of their frames

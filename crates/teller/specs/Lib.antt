@@ -2,4 +2,3 @@ pub mod Decimal
 pub mod Words
 pub mod Run
 pub mod Fed
-pub mod Frames
