@@ -2,3 +2,5 @@ pub mod Small
 pub mod Steps
 pub mod Replies
 pub mod Calls
+pub mod Sentence
+pub mod Instances

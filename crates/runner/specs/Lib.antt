@@ -1,4 +1,5 @@
 pub mod Said
 pub mod Run
 pub mod Fed
+pub mod Sentence
 pub mod Worked
