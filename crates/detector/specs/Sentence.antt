@@ -1,6 +1,6 @@
 -- The hangover as a sentence about frames one after the other from reset. Of those that are accepted, counted from 0 in their order, vad is 1 at a
--- frame exactly if vvad is 1 there, or three consecutive raw speech frames ended at one of the five frames before it; refused frames between them
--- change nothing. `hangover-sentence` in `proofs/Sentence.antt` shows it. Assumes nothing.
+-- frame exactly if vvad is 1 there, or three consecutive raw speech frames ended at one of the five frames before it. A refused frame between them is
+-- not counted. `hangover-sentence` in `proofs/Sentence.antt` shows it. Assumes nothing.
 use mathlib.Core.Bool.{Bool}
 use mathlib.Core.List.{List}
 use Prim.Native.Nat.{ℕ, _<_}
@@ -11,7 +11,7 @@ use Rattle.state.specs.Valid.{resetOf}
 use Rattle.detector.specs.declared.Answer.{Answer}
 use Rattle.detector.specs.Run.{Frame, acceptedFrom, flagsOf, rawsOf}
 
--- the answers of `step` to the accepted frames
+-- the answers of `step` to the accepted ones of some frames: to all of them, if each is accepted
 unfoldable pub accepted : List Frame → List Answer
 accepted frames = acceptedFrom resetOf frames
 

@@ -1,7 +1,7 @@
 -- Frames one after the other from reset, as tables that the checker computes from clauses 6.1 to 6.9: there are frames with document 01's rows of raw
 -- flags, and these are the flags that `step` answers. Assumes nothing.
 use mathlib.Core.Path.{_≡_, refl}
-use mathlib.Core.List.{List, [], _∷_, map}
+use mathlib.Core.List.{List, [], _∷_}
 use Prim.Native.Nat.{ℕ}
 use lib.Count.{leadingZeros}
 use lib.IntN.{ℤ, pos}

@@ -304,13 +304,13 @@ module _ (B T : ℕ) (one : 1 ≤ B) (p : B ≤ 39) (q : T ≤ 39) where
     pub held-by : (i : ℕ) → raw i ≡ false → flagAt B T raw i ≡ true → (1 ≤ latestAt B raw i) × (i + 1 ≤ T + latestAt B raw i)
     held-by i e h = ⊎-elim (λ r. absurd (subst dec.T (sym r ∙ e) tt)) (latest-near B T raw i) (sentence i .0 h)
 
+    -- and it completes none itself
     no-burst : (i : ℕ) → raw i ≡ false → leb B (leadAt raw (suc i)) ≡ false
     no-burst i e =
         either (leb B (leadAt raw (suc i)) ≡ false) (leb B (leadAt raw (suc i)))
         (λ t. absurd (subst dec.T (sym (burst-raw i (leb-true B (leadAt raw (suc i)) t)) ∙ e) tt))
         (λ t. t)
 
-    -- and it completes none itself
     pub latest-quiet : (i : ℕ) → raw i ≡ false → latestAt B raw (suc i) ≡ latestAt B raw i
     unfolding latestAt
     latest-quiet i e = by-no _ _ (no-burst i e)

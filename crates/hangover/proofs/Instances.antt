@@ -1,21 +1,24 @@
--- The sentence says something in both directions, by itself: of frames whose first n are raw speech, and then none. Assumes nothing.
-use mathlib.Core.Path.{_≡_}
+-- The sentence says something in both directions, by itself: of frames of which only the first n are raw speech, or only frame n is. Assumes nothing.
+use mathlib.Core.Path.{_≡_, refl}
 use mathlib.Core.Bool.{Bool, true}
 use mathlib.Core.Logic.{inl, inr, ⊎-elim}
 use Prim.Native.Nat.{ℕ, _-_}
 use native.Mathlib.Omega.{arith}
 use borrow.Author.Tests.{lt-ltb, ltb-true}
-use lib.Dec.{ltb}
+use lib.Dec.{eqb, ltb}
 use Rattle.hangover.specs.Sentence.{Before, EndedBefore, Sentence}
 
 abbrev pub first : ℕ → ℕ → Bool
 first n i = ltb i n
 
+abbrev pub lone : ℕ → ℕ → Bool
+lone n i = eqb i n
+
 module _ (vad : ℕ → Bool) where
   -- from right to left: a frame of raw speech needs no burst, and where three in a row ended at frame 2, frame 7 is held
-  pub alone : Sentence vad (first 1) 0 → vad 0 ≡ true
+  pub alone : Sentence vad (lone 2) 2 → vad 2 ≡ true
   unfolding Sentence
-  alone s = s .1 (inl (lt-ltb 0 1 (omega arith)))
+  alone s = s .1 (inl refl)
 
   pub held : Sentence vad (first 3) 7 → vad 7 ≡ true
   unfolding Sentence EndedBefore Before

@@ -3,7 +3,6 @@
 use mathlib.Core.Path.{_≡_, refl, sym, _∙_}
 use mathlib.Core.Bool.{Bool, true, false}
 use mathlib.Core.List.{List}
-use mathlib.Core.Logic.{_↔_, _⊎_}
 use Prim.Native.Nat.{ℕ}
 use native.Mathlib.Omega.{arith}
 use lib.ListN.{length}
@@ -14,20 +13,21 @@ use Rattle.rows.specs.Rows.{row}
 use Rattle.rows.proofs.Fill.{row-ext}
 use Rattle.hangover.specs.Hangover.{burstOf, runDownOf}
 use Rattle.hangover.specs.Bursts.{byPlace}
-use Rattle.hangover.specs.Sentence.{EndedBefore, Sentence, bits, Gives, Rows}
+use Rattle.hangover.specs.Sentence.{Sentence, bits, Gives, Rows}
 use Rattle.hangover.proofs.Bursts.{startedWith, hangoverWith, hungAt, flagAt, sentence}
 
-module _ (vad vvad : ℕ → Bool) (i : ℕ) where
-  clause : (flagAt 3 5 vvad i ≡ true) ↔ ((vvad i ≡ true) ⊎ EndedBefore 3 5 vvad i)
-  clause = sentence 3 5 (omega arith) (omega arith) (omega arith) vvad i
+pub clause : (vvad : ℕ → Bool) (i : ℕ) → Sentence (flagAt 3 5 vvad) vvad i
+unfolding Sentence
+clause vvad i = sentence 3 5 (omega arith) (omega arith) (omega arith) vvad i
 
+module _ (vad vvad : ℕ → Bool) (i : ℕ) where
   pub spoken : vad i ≡ flagAt 3 5 vvad i → Sentence vad vvad i
   unfolding Sentence
-  spoken e = (λ h. clause .0 (sym e ∙ h), λ h. e ∙ clause .1 h)
+  spoken e = (λ h. clause vvad i .0 (sym e ∙ h), λ h. e ∙ clause vvad i .1 h)
 
   pub only : Sentence vad vvad i → vad i ≡ flagAt 3 5 vvad i
   unfolding Sentence
-  only s = same (vad i) (flagAt 3 5 vvad i) (λ h. clause .1 (s .0 h)) (λ h. s .1 (clause .0 h))
+  only s = same (vad i) (flagAt 3 5 vvad i) (λ h. clause vvad i .1 (s .0 h)) (λ h. s .1 (clause vvad i .0 h))
     where
       same : (a b : Bool) → (a ≡ true → b ≡ true) → (b ≡ true → a ≡ true) → a ≡ b
       same true b f g = sym (f refl)

@@ -6,7 +6,7 @@ use mathlib.Core.List.{List}
 use Prim.Native.Nat.{ℕ, _+_, _-_, _<_, _≤_}
 use lib.ListN.{getD}
 
--- flags in the order of the frames, by a frame's place
+-- flags in the order of the frames, by a frame's place: false past the last
 unfoldable pub byPlace : List Bool → ℕ → Bool
 byPlace flags i = getD flags i false
 

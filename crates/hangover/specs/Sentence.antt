@@ -1,5 +1,5 @@
--- The hangover as a sentence. `vad i` and `vvad i` are the flag and the raw flag of frame i of a run, where frames are counted from 0. `spoken` in
--- `proofs/Sentence.antt` shows it of clause 6.8, frame after frame from reset; `rows` there, that document 01's rows follow from it. Assumes nothing.
+-- The hangover as a sentence. `vad i` and `vvad i` are the flag and the raw flag of frame i of a run, where frames are counted from 0. `clause` in
+-- `proofs/Sentence.antt` shows it of 6.8, frame after frame from reset; `rows` there, that document 01's rows follow from it. Assumes nothing.
 use mathlib.Core.Path.{_≡_}
 use mathlib.Core.Bool.{Bool, true}
 use mathlib.Core.List.{List, [], _∷_, map}

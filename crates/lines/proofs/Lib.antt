@@ -9,3 +9,4 @@ pub mod Answers
 pub mod RoundTrip
 pub mod Malformed
 pub mod Whole
+pub mod Frames

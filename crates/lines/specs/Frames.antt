@@ -1,5 +1,5 @@
--- The frames of a trace: those of its lines that are not refused as they are read. What a run of lines answers is said by them: `replies-frames` in
--- `runner/proofs/Sentence.antt`, `line-explained` in `teller/proofs/Frames.antt`. Assumes nothing.
+-- The frames of a trace: those of its lines that are not refused as they are read. What is answered to its lines is what is answered to these frames:
+-- `replies-frames` in `runner/proofs/Sentence.antt`, `line-explained` in `teller/proofs/Frames.antt`. Assumes nothing.
 use mathlib.Core.List.{List, [], _∷_}
 use Prim.Native.Nat.{ℕ}
 use lib.Dec.{eqb}

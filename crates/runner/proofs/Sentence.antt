@@ -4,7 +4,7 @@ use mathlib.Core.Bool.{Bool}
 use mathlib.Core.List.{List, [], _∷_, map, map-map}
 use Prim.Native.Nat.{ℕ, _<_}
 use native.Mathlib.Omega.{arith}
-use borrow.Author.Tests.{eq-eqb, ne-eqb, eqb-true, eqb-false}
+use borrow.Author.Tests.{eqb-true, eqb-false}
 use lib.Dec.{eqb}
 use lib.ListN.{length, length-map}
 use Rattle.rows.proofs.Choice.{by-yes, by-no, by-test, either}
@@ -18,6 +18,7 @@ use Rattle.lines.specs.Answers.{decodedOf}
 use Rattle.lines.specs.Frames.{frameIn, framesOf}
 use Rattle.lines.proofs.Answers.{accepted-formed}
 use Rattle.lines.proofs.Whole.{formed-line}
+use Rattle.lines.proofs.Frames.{frames-yes, frames-no}
 use Rattle.detector.specs.declared.Answer.{Answer}
 use Rattle.detector.specs.Run.{Frame, answerTo, acceptedFrom, flagsOf, rawsOf}
 use Rattle.detector.specs.Sentence as detector
@@ -27,7 +28,7 @@ use Rattle.runner.specs.declared.Reply.{Reply}
 use Rattle.runner.specs.declared.Said.{Said}
 use Rattle.runner.specs.Said.{saidOf, steppedOf, deniedOf}
 use Rattle.runner.specs.Run.{nextOf, replyOf, repliesFrom, repliesOf}
-use Rattle.runner.specs.Sentence.{acceptedOf, accepted, vad, vvad, linesTaken, withoutRefused, TraceSentence}
+use Rattle.runner.specs.Sentence.{repliesTaken, accepted, vad, vvad, linesTaken, withoutRefused, TraceSentence}
 use Rattle.runner.proofs.Steps.{said-no, said-ok}
 
 -- ---- one line: its answer is the detector's to its frame, or a refusal that leaves the state
@@ -60,37 +61,28 @@ module _ (s : State) (l : List ℕ) where
       (λ t. ap (λ (x : Said). x .next) (said-no s l (eqb-false (decodedOf l .refusal) 0 t)))
 
 -- ---- the accepted answers of a trace are the detector's to the frames of its lines
-module _ (l : List ℕ) (ls : List (List ℕ)) where
-  frames-yes : decodedOf l .refusal ≡ 0 → framesOf (l ∷ ls) ≡ frameIn l ∷ framesOf ls
-  unfolding framesOf
-  frames-yes h = by-yes _ _ (eq-eqb (decodedOf l .refusal) 0 h)
-
-  frames-no : (decodedOf l .refusal ≡ 0 → ⊥) → framesOf (l ∷ ls) ≡ framesOf ls
-  unfolding framesOf
-  frames-no h = by-no _ _ (ne-eqb (decodedOf l .refusal) 0 h)
-
 -- one frame before others
-front : (s : State) (f : Frame) (fs : List Frame) (rs : List Reply) → acceptedOf rs ≡ map replied (acceptedFrom (answerTo s f .next) fs)
-    → acceptedOf (replied (answerTo s f) ∷ rs) ≡ map replied (acceptedFrom s (f ∷ fs))
-unfolding acceptedOf steppedOf
+front : (s : State) (f : Frame) (fs : List Frame) (rs : List Reply) → repliesTaken rs ≡ map replied (acceptedFrom (answerTo s f .next) fs)
+    → repliesTaken (replied (answerTo s f) ∷ rs) ≡ map replied (acceptedFrom s (f ∷ fs))
+unfolding repliesTaken steppedOf
 front s f fs rs ih =
     by-test (λ (x : List Reply). x ≡ map replied (acceptedFrom s (f ∷ fs))) (eqb (answerTo s f .refusal) 0) _ _
     (λ t. ap (λ (x : List Reply). replied (answerTo s f) ∷ x) ih ∙ ap (map replied) (sym (accepted-more s f fs (eqb-true _ 0 t))))
     (λ t. ih ∙ ap (map replied) (sym (refused-more s f fs (eqb-false _ 0 t))))
 
-pub replies-frames : (ls : List (List ℕ)) (s : State) → acceptedOf (repliesFrom s ls) ≡ map replied (acceptedFrom s (framesOf ls))
-unfolding acceptedOf repliesFrom framesOf acceptedFrom nextOf replyOf steppedOf deniedOf
+pub replies-frames : (ls : List (List ℕ)) (s : State) → repliesTaken (repliesFrom s ls) ≡ map replied (acceptedFrom s (framesOf ls))
+unfolding repliesTaken repliesFrom framesOf acceptedFrom nextOf replyOf steppedOf deniedOf
 replies-frames [] s = refl
 replies-frames (l ∷ ls) s =
-    either (acceptedOf (repliesFrom s (l ∷ ls)) ≡ map replied (acceptedFrom s (framesOf (l ∷ ls)))) (eqb (decodedOf l .refusal) 0)
+    either (repliesTaken (repliesFrom s (l ∷ ls)) ≡ map replied (acceptedFrom s (framesOf (l ∷ ls)))) (eqb (decodedOf l .refusal) 0)
     (λ t.
     let h = eqb-true (decodedOf l .refusal) 0 t in
-    ap (λ (x : Said). acceptedOf (x .reply ∷ repliesFrom (x .next) ls)) (said-frame s l h)
+    ap (λ (x : Said). repliesTaken (x .reply ∷ repliesFrom (x .next) ls)) (said-frame s l h)
     ∙ (front s (frameIn l) (framesOf ls) (repliesFrom (answerTo s (frameIn l) .next) ls) (replies-frames ls (answerTo s (frameIn l) .next)) ∙ ap (λ (fs : List Frame). map replied (acceptedFrom s fs)) (sym (frames-yes l ls h))))
     (λ t.
     let h = eqb-false (decodedOf l .refusal) 0 t in
-    ap (λ (x : Said). acceptedOf (x .reply ∷ repliesFrom (x .next) ls)) (said-no s l h)
-    ∙ (by-no (deniedOf (decodedOf l .refusal) s .reply ∷ acceptedOf (repliesFrom s ls)) _ t ∙ (replies-frames ls s ∙ ap (λ (fs : List Frame). map replied (acceptedFrom s fs)) (sym (frames-no l ls h)))))
+    ap (λ (x : Said). repliesTaken (x .reply ∷ repliesFrom (x .next) ls)) (said-no s l h)
+    ∙ (by-no (deniedOf (decodedOf l .refusal) s .reply ∷ repliesTaken (repliesFrom s ls)) _ t ∙ (replies-frames ls s ∙ ap (λ (fs : List Frame). map replied (acceptedFrom s fs)) (sym (frames-no l ls h)))))
 
 -- ---- so the sentence holds of them
 abbrev Says : List Reply → Type 0
@@ -113,13 +105,13 @@ taken-lines (l ∷ ls) s =
     (λ t. formed-line l _ (accepted-formed l (read s l (eqb-true _ 0 t)) .0) ∙ ap (λ (x : List (List ℕ)). l ∷ x) (taken-lines ls (nextOf s l)))
     (λ t. taken-lines ls (nextOf s l))
 
-taken-replies : (ls : List (List ℕ)) (s : State) → repliesFrom s (linesTaken s ls) ≡ acceptedOf (repliesFrom s ls)
-unfolding linesTaken repliesFrom acceptedOf
+taken-replies : (ls : List (List ℕ)) (s : State) → repliesFrom s (linesTaken s ls) ≡ repliesTaken (repliesFrom s ls)
+unfolding linesTaken repliesFrom repliesTaken
 taken-replies [] s = refl
 taken-replies (l ∷ ls) s =
     let r = replyOf s l in
     let n = nextOf s l in
-    either (repliesFrom s (linesTaken s (l ∷ ls)) ≡ acceptedOf (r ∷ repliesFrom n ls)) (eqb (r .refusal) 0)
+    either (repliesFrom s (linesTaken s (l ∷ ls)) ≡ repliesTaken (r ∷ repliesFrom n ls)) (eqb (r .refusal) 0)
     (λ t. ap (repliesFrom s) (by-yes (l ∷ linesTaken n ls) (linesTaken n ls) t) ∙ (ap (λ (x : List Reply). r ∷ x) (taken-replies ls n) ∙ sym (by-yes _ _ t)))
     (λ t.
     ap (repliesFrom s) (by-no (l ∷ linesTaken n ls) (linesTaken n ls) t)

@@ -1,6 +1,6 @@
--- The hangover as a sentence about a trace. Of the answers that are accepted, those whose text begins with 0, counted from 0 in their order, vad is 1
--- exactly if vvad is 1 there, or three consecutive raw speech frames ended at one of the five before it. Refused lines between them change nothing:
--- the trace without them is answered as they are. `trace-sentence` in `proofs/Sentence.antt` shows it. Assumes nothing.
+-- The hangover as a sentence about a trace. Of the answers that are accepted, those whose text begins with 0, counted from 0 in their order: vad is 1
+-- in one of them exactly if vvad is 1 there, or three consecutive ones with vvad 1 ended at one of the five before it. And refused lines change
+-- nothing: the trace without them is given just these answers. `trace-sentence` in `proofs/Sentence.antt` shows it. Assumes nothing.
 use mathlib.Core.Path.{_≡_}
 use mathlib.Core.Bool.{Bool}
 use mathlib.Core.List.{List, [], _∷_, map}
@@ -18,12 +18,12 @@ use Rattle.runner.specs.declared.Reply.{Reply}
 use Rattle.runner.specs.Run.{nextOf, replyOf, repliesOf}
 
 -- the answers to a trace that are accepted
-unfoldable pub acceptedOf : List Reply → List Reply
-acceptedOf [] = []
-acceptedOf (r ∷ rs) = IF eqb (r .refusal) 0 THEN r ∷ acceptedOf rs ELSE acceptedOf rs
+unfoldable pub repliesTaken : List Reply → List Reply
+repliesTaken [] = []
+repliesTaken (r ∷ rs) = IF eqb (r .refusal) 0 THEN r ∷ repliesTaken rs ELSE repliesTaken rs
 
 unfoldable pub accepted : List ℕ → List Reply
-accepted input = acceptedOf (repliesOf input)
+accepted input = repliesTaken (repliesOf input)
 
 -- the flags of number i of them
 unfoldable pub vad : List ℕ → ℕ → Bool

@@ -4,9 +4,10 @@ use mathlib.Core.List.{List, [], _∷_}
 use Prim.Native.Nat.{ℕ}
 use borrow.Author.Tests.{eqb-true, eqb-false}
 use lib.Dec.{eqb}
-use Rattle.rows.proofs.Choice.{by-yes, by-no, either}
+use Rattle.rows.proofs.Choice.{either}
 use Rattle.lines.specs.Answers.{decodedOf}
 use Rattle.lines.specs.Frames.{frameIn, framesOf}
+use Rattle.lines.proofs.Frames.{frames-yes, frames-no}
 use Rattle.pieces.specs.Pieces.{stateAfter}
 use Rattle.why.specs.declared.Why.{Why}
 use Rattle.why.specs.declared.Explainer.{Explainer}
@@ -24,10 +25,10 @@ lines-run (l ∷ ls) e =
     either (stateAfter nextOf (toldOf e l .next) ls ≡ explainerFrom e (framesOf (l ∷ ls))) (eqb (decodedOf l .refusal) 0)
     (λ t.
     let h = eqb-true (decodedOf l .refusal) 0 t in
-    ap (λ (x : Told). stateAfter nextOf (x .next) ls) (told-ok e l h) ∙ (lines-run ls (explainedTo e (frameIn l) .next) ∙ sym (ap (explainerFrom e) (by-yes (frameIn l ∷ framesOf ls) (framesOf ls) t))))
+    ap (λ (x : Told). stateAfter nextOf (x .next) ls) (told-ok e l h) ∙ (lines-run ls (explainedTo e (frameIn l) .next) ∙ sym (ap (explainerFrom e) (frames-yes l ls h))))
     (λ t.
     let h = eqb-false (decodedOf l .refusal) 0 t in
-    ap (λ (x : Told). stateAfter nextOf (x .next) ls) (told-no e l h) ∙ (lines-run ls e ∙ sym (ap (explainerFrom e) (by-no (frameIn l ∷ framesOf ls) (framesOf ls) t))))
+    ap (λ (x : Told). stateAfter nextOf (x .next) ls) (told-no e l h) ∙ (lines-run ls e ∙ sym (ap (explainerFrom e) (frames-no l ls h))))
 
 -- a line after others: what it is told is what is asked of its frame after theirs, or the number of its refusal
 pub line-explained : (ls : List (List ℕ)) (l : List ℕ) → decodedOf l .refusal ≡ 0 → toldOf (explainerOf startOf ls) l .why ≡ told (framesOf ls) (frameIn l) .why
