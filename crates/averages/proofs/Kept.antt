@@ -22,9 +22,9 @@ use Rattle.rows.specs.Rows.{row}
 use Rattle.rows.proofs.Choice.{either}
 use Rattle.rows.proofs.Fill.{length-row, row-at}
 use Rattle.averages.specs.declared.Averages.{Averages}
-use Rattle.averages.specs.Averages.{L-tempOf, L-av0Of, L-av1Of, storedOf, nextOf, averageOf}
+use Rattle.averages.specs.Averages.{L-tempOf, L-av0Of, L-av1Of, storedOf, averageOf}
 use Rattle.averages.proofs.Quarters.{Quarter, Four, av0-exact}
-use Rattle.averages.proofs.Pointers.{Pointer, inside-is, next-pointer}
+use Rattle.averages.proofs.Pointers.{Pointer, next-pointer, average-inside}
 use Rattle.averages.proofs.Stored.{stored-length, stored-each}
 
 -- ---- what is kept
@@ -150,12 +150,6 @@ module _ (L-ACF : List ℤ) (scalvad : ℤ) (L-sacf : List ℤ) (pt-sacf : ℕ) 
   abbrev L-av1 : List ℤ
   L-av1 = row 9 (L-av1Of L-sav0 pt-sav0)
 
-  -- the pointers are inside already
-  clause-is : averageOf L-ACF scalvad L-sacf pt-sacf L-sav0 pt-sav0
-      ≡ record { av0 = L-av0; av1 = L-av1; sacf = storedOf L-sacf pt-sacf L-temp; ptsacf = nextOf 18 pt-sacf; sav0 = storedOf L-sav0 pt-sav0 L-av0; ptsav0 = nextOf 27 pt-sav0 }
-  unfolding averageOf
-  clause-is = rw (inside-is 18 pt-sacf (p .within), inside-is 27 pt-sav0 (q .within))
-
   temp-at : (i : ℕ) → i < 9 → at L-temp i ≡ L-tempOf L-ACF scalvad i
   temp-at i l = row-at 9 (L-tempOf L-ACF scalvad) i (pos 0) l
 
@@ -184,7 +178,7 @@ module _ (L-ACF : List ℤ) (scalvad : ℤ) (L-sacf : List ℤ) (pt-sacf : ℕ) 
       let r36 : pt-sav0 + 9 ≤ length L-sav0 = omega (arith, q .within, k .size) in
       let n27 = length-row 9 (L-tempOf L-ACF scalvad) in
       let n36 = length-row 9 (L-av0Of L-sacf L-temp) in
-      subst Averaged (sym clause-is)
+      subst Averaged (sym (average-inside L-ACF scalvad L-sacf pt-sacf L-sav0 pt-sav0 (p .within) (q .within)))
       (record {
         av0-size = n36;
         av0-first = sum-first;
@@ -207,7 +201,7 @@ module _ (L-ACF : List ℤ) (scalvad : ℤ) (L-sacf : List ℤ) (pt-sacf : ℕ) 
   pub average-exact : (i : ℕ) → i < 9 → at (averageOf L-ACF scalvad L-sacf pt-sacf L-sav0 pt-sav0 .av0) i
       ≡ at L-sacf (i + 18) +ℤ (at L-sacf (i + 9) +ℤ (at L-sacf i +ℤ L-tempOf L-ACF scalvad i))
   average-exact i l =
-      ap (λ (r : Averages). at (r .av0) i) clause-is
+      ap (λ (r : Averages). at (r .av0) i) (average-inside L-ACF scalvad L-sacf pt-sacf L-sav0 pt-sav0 (p .within) (q .within))
       ∙ row-at 9 (L-av0Of L-sacf L-temp) i (pos 0) l
       ∙ av0-exact L-sacf L-temp i (four i l)
       ∙ ap (λ (z : ℤ). at L-sacf (i + 18) +ℤ (at L-sacf (i + 9) +ℤ (at L-sacf i +ℤ z))) (temp-at i l)

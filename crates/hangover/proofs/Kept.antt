@@ -1,12 +1,14 @@
--- The hangover keeps its counts in range: burstcount 0..3, hangcount -1..5 (and at most 4 after a frame). Assumes nothing.
-use mathlib.Core.Bool.{Bool}
+-- The hangover keeps its counts in range: burstcount 0..3, hangcount -1..5 (and at most 4 after a frame). Where the frame is not raw speech,
+-- hangcount alone decides. Assumes nothing.
+use mathlib.Core.Path.{_≡_}
+use mathlib.Core.Bool.{Bool, false}
 use lib.IntN.{ℤ, pos, negsuc}
 use lib.Signed.{leZ, _≤ℤ_}
 use Rattle.numbers.proofs.Parts.{zarith, of, plus, minus, same, le-no}
 use Rattle.operations.specs.Operations.{add, sub}
 use Rattle.operations.proofs.Laws.{add-exact, sub-exact}
 use Rattle.rows.specs.Choice.{IF_THEN_ELSE_}
-use Rattle.rows.proofs.Choice.{by-test}
+use Rattle.rows.proofs.Choice.{by-test, either}
 use Rattle.hangover.specs.declared.Hung.{Hung}
 use Rattle.hangover.specs.Hangover.{burstOf, runDownOf, startedOf, hangoverOf}
 
@@ -52,3 +54,8 @@ started-keeps vvad b h s d =
 pub hangover-keeps : (vvad : Bool) (b h : ℤ) → Counts b h → Counts (hangoverOf vvad b h .burstcount) (hangoverOf vvad b h .hangcount)
 unfolding hangoverOf
 hangover-keeps vvad b h k = started-keeps vvad (burstOf vvad b) h (burst-small vvad b h k) (k .hang-lo, k .hang-hi)
+
+-- a frame without raw speech is sent exactly if the hangover is not over
+pub quiet-flag : (b h : ℤ) → hangoverOf false b h .vad ≡ leZ (pos 0) h
+unfolding hangoverOf startedOf burstOf runDownOf IF_THEN_ELSE_
+quiet-flag b h = either (hangoverOf false b h .vad ≡ leZ (pos 0) h) (leZ (pos 0) h) (λ t. rw t) (λ t. rw t)

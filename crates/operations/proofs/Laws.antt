@@ -2,13 +2,13 @@
 -- document 01, 'Arithmetic', one by one. Those on norm stand in `Normal`. Assumes nothing.
 use mathlib.Core.Path.{_≡_, refl, sym, ap, _∙_}
 use Prim.Native.Nat.{ℕ, zero, suc, _+_, _*_, _/_, _^_, _<_, min}
-use native.Mathlib.Nat.{div-lt-iff-lt-mul, mul-div-cancel-left, mul-lt-mul-of-pos-right, zero-div}
+use native.Mathlib.Nat.{div-lt-iff-lt-mul, mul-div-cancel-left, mul-lt-mul-of-pos-right, zero-div, zero-mul}
 use native.Mathlib.Omega.{arith}
 use lib.IntN.{ℤ, natAbs, pos, negsuc, negℤ, _+ℤ_, _-ℤ_, _*ℤ_}
 use lib.Signed.{shrZ}
 use lib.Pow.{pow-pos, shr-shr}
 use mir.Syntax.{Width, w16, w32}
-use mir.Val.{SFits, bits}
+use mir.Val.{SFits, bits, hbits}
 use Rattle.numbers.specs.Floor.{residue}
 use Rattle.numbers.specs.Clamp.{clamp}
 use Rattle.numbers.specs.Wrap.{wrap}
@@ -70,6 +70,9 @@ pub L-mult-exact : (x y : ℤ) → natAbs x * natAbs y < 2 ^ 30 → L-mult x y �
 unfolding L-mult
 L-mult-exact x y h = clamp-in w32 (x *ℤ y *ℤ pos 2) (abs-fits w32 (x *ℤ y *ℤ pos 2) (omega (arith, abs-* (x *ℤ y) (pos 2), abs-* x y)))
 
+pub L-mult-nothing : (y : ℤ) → L-mult (pos 0) y ≡ pos 0
+L-mult-nothing y = L-mult-exact (pos 0) y (omega (arith, zero-mul (natAbs y))) ∙ ring (v (pos 0) ⊗ v y ⊗ v (pos 2)) (v (pos 0)) (omega arith)
+
 pub L-mult-comm : (x y : ℤ) → L-mult x y ≡ L-mult y x
 unfolding L-mult
 L-mult-comm x y = ap (λ (z : ℤ). clamp w32 (z *ℤ pos 2)) (ring (v x ⊗ v y) (v y ⊗ v x) (omega arith))
@@ -111,6 +114,12 @@ module _ (w : Width) where
   unfolding shiftRight
   right-fits x (pos n) f = floor-fits (2 ^ n) f
   right-fits x (negsuc n) f = wrap-fits w (x *ℤ pos (2 ^ suc n))
+
+  -- 0 shifted is 0
+  pub right-nothing : (n : ℤ) → shiftRight w (pos 0) n ≡ pos 0
+  unfolding shiftRight
+  right-nothing (pos n) = ap pos (zero-div (2 ^ n))
+  right-nothing (negsuc n) = ap (wrap w) (omega (zarith, times (pos 0) (pos (2 ^ suc n)))) ∙ wrap-in w (record { sfits = pow-pos (hbits w) })
 
   -- "A shift by a negative amount is the opposite shift"
   once : (z : ℤ) → z *ℤ pos 1 ≡ z
