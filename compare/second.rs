@@ -1,5 +1,5 @@
 //! A second implementation of the uplink voice activity detector, to compare the first one with. It shares no code with it: it is written from
-//! GSM 06.32, clause 6 (the clause numbers stand beside each part), and document 01, in plain Rust, with every number an i64.
+//! GSM 06.32, clause 6 (the clause numbers stand beside each part), and document 01 as request 4 mends it, in plain Rust, with every number an i64.
 
 pub const LINE: usize = 82;
 
@@ -211,33 +211,31 @@ pub fn step(acf: &[i64], lags: &[i64], scal: i64, memory: &Memory) -> Answer {
         pvad = (acf0.0 + 14 - s.normrvad - p, shr(shl(l, p), 16));
     }
 
-    // 6.2 to 6.4, which an all-zero frame leaves out
-    let left_out = acf[0] == 0;
-    let mut stat = false;
-    let mut rav1 = [0i64; 9];
-    let mut normrav1 = 0;
-    if !left_out {
-        let (av0, av1) = averages(acf, scal, &mut s);
-        let vpar = schur(&av1);
-        let aav1 = step_up(&vpar);
-        let mut work = [0i64; 9];
-        for i in 0..9 {
-            for k in 0..9 - i {
-                work[i] = l_add(work[i], l_mult(aav1[k], aav1[k + i]));
-            }
+    // 6.2
+    let (av0, av1) = averages(acf, scal, &mut s);
+
+    // 6.3
+    let aav1 = step_up(&schur(&av1));
+    let mut work = [0i64; 9];
+    for i in 0..9 {
+        for k in 0..9 - i {
+            work[i] = l_add(work[i], l_mult(aav1[k], aav1[k + i]));
         }
-        normrav1 = norm(work[0]);
-        for i in 0..9 {
-            rav1[i] = shr(shl(work[i], normrav1), 16);
-        }
-        let dm = measure(&av0, &rav1, normrav1);
-        let mut moved = l_sub(dm, s.lastdm);
-        s.lastdm = dm;
-        if moved < 0 {
-            moved = l_sub(0, moved);
-        }
-        stat = l_sub(moved, 3277) < 0;
     }
+    let normrav1 = norm(work[0]);
+    let mut rav1 = [0i64; 9];
+    for i in 0..9 {
+        rav1[i] = shr(shl(work[i], normrav1), 16);
+    }
+
+    // 6.4
+    let dm = measure(&av0, &rav1, normrav1);
+    let mut moved = l_sub(dm, s.lastdm);
+    s.lastdm = dm;
+    if moved < 0 {
+        moved = l_sub(0, moved);
+    }
+    let stat = l_sub(moved, 3277) < 0;
 
     // 6.5
     let ptch = s.oldlagcount + s.veryoldlagcount >= 4;

@@ -1,6 +1,5 @@
 pub mod Parted
 pub mod Lossless
-pub mod Pointed
 pub mod Answers
 pub mod Rounds
 pub mod Lines

@@ -27,7 +27,7 @@ use Rattle.state.specs.declared.State.{State}
 use Rattle.state.specs.Valid.{pointerOk, sacfWithin, sacfOk, sav0Ok, weightOf, rvadOk, thvadOk, lagOk, countsOk, validOf, resetOf}
 use Rattle.detector.specs.declared.Answer.{Answer}
 use Rattle.detector.specs.Refusal.{lengthsOk, scaleOk, acfOk, lagsOk, frameRefusalOf, refusalOf}
-use Rattle.detector.specs.Step.{spectralOf, movedOf, acceptedOf, refusedOf, stepOf}
+use Rattle.detector.specs.Step.{spectralOf, acceptedOf, refusedOf, stepOf}
 use Rattle.detector.proofs.Keeps.{Numbers, zeros-fit}
 use Rattle.demands.specs.Demands.{Demand3}
 use Rattle.demands.specs.Distance.{EOf, WOf, aOf, LOf, pOf, distanceOf, energyUnits, distanceUnits, pairUnits}
@@ -99,7 +99,7 @@ decides-speech-is = (refl, demand-3 loud forty (pos 0) resetOf (numbers 100000 (
 
 -- ---- 4. hands back the state it got
 pub keeps-pointer : KeepsPointer
-unfolding stepOf acceptedOf refusalOf frameRefusalOf lengthsOk scaleOk acfOk lagsOk validOf countsOk pointerOk sacfOk sacfWithin sav0Ok rvadOk weightOf thvadOk lagOk within resetOf row all total IF_THEN_ELSE_ movedOf spectralOf averageOf inside nextOf eqZ
+unfolding stepOf acceptedOf refusalOf frameRefusalOf lengthsOk scaleOk acfOk lagsOk validOf countsOk pointerOk sacfOk sacfWithin sav0Ok rvadOk weightOf thvadOk lagOk within resetOf row all total IF_THEN_ELSE_ spectralOf averageOf inside nextOf eqZ
 keeps-pointer f idle e = false≢true (ap (λ (n : ℕ). eqb n 0) (sym (ap (λ (r : Answer). r .next .ptsacf) e) ∙ idle _ _ _ _))
 
 pub keeps-lagcount : KeepsLagcount
@@ -115,7 +115,7 @@ hands-back-is L-ACF lags scalvad s = refl
 
 -- ---- 5. repeats its first answer
 pub repeater : Repeater
-unfolding stepOf acceptedOf refusalOf frameRefusalOf lengthsOk scaleOk acfOk lagsOk validOf countsOk pointerOk sacfOk sacfWithin sav0Ok rvadOk weightOf thvadOk lagOk within resetOf row all total IF_THEN_ELSE_ energyOf acf0Of pvadOf filterSumOf positive sacfOf L-sum add sub L-add L-mult norm leadingZeros shiftLeft shiftRight clamp wrap residue eqZ adaptOf greaterOf hangoverOf startedOf burstOf runDownOf movedOf spectralOf averageOf inside nextOf storedOf L-tempOf L-av0Of lagcountOf onceOf countedOf smallagOf
+unfolding stepOf acceptedOf refusalOf frameRefusalOf lengthsOk scaleOk acfOk lagsOk validOf countsOk pointerOk sacfOk sacfWithin sav0Ok rvadOk weightOf thvadOk lagOk within resetOf row all total IF_THEN_ELSE_ energyOf acf0Of pvadOf filterSumOf positive sacfOf L-sum add sub L-add L-mult norm leadingZeros shiftLeft shiftRight clamp wrap residue eqZ adaptOf greaterOf hangoverOf startedOf burstOf runDownOf spectralOf averageOf inside nextOf storedOf L-tempOf L-av0Of lagcountOf onceOf countedOf smallagOf
 repeater f idle e =
     let again = ap (λ (s : State). f quiet forty (pos 0) s) (ap (λ (r : Answer). r .next) (sym (idle .first))) ∙ idle .again quiet forty (pos 0) ∙ idle .first in
     true≢false (ap (λ (r : Answer). r .vad) (sym again ∙ e))

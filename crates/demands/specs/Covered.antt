@@ -172,5 +172,5 @@ module _ (L-ACF : List ℤ) (lags : List ℕ) (scalvad : ℤ) (s : State) where
     pub c-6-4 : Clause-6-4 (averages .av0) (sizeOf (L-ΣpOf (filter .rav1) (averages .av0))) filter
     pub c-6-6 : greaterOf PTH (energies .acf0) ≡ false → Clause-6-6 (s .thvad) (energies .pvad)
     pub c-6-9 : Clause-6-9 (s .oldlag) lags
-    -- an all-zero frame: 6.1 exits at once, 6.2 to 6.4 are not run, and 6.6 stops at the level
+    -- an all-zero frame: 6.1 exits at once, and 6.6 stops at the level
     pub all-zero : at L-ACF 0 ≡ pos 0 → greaterOf PTH (energies .acf0) ≡ true

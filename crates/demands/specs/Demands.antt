@@ -70,6 +70,7 @@ pub record WriteDemand1 (f : Frame) (l : List ℕ) (n : ℕ) (l′ : List ℕ) :
   pub as-lent : (n ≡ 0 → ⊥) → l′ ≡ l
 
 -- ---- 2. "For every accepted frame the flags, both energies and the whole next state are those of clauses 6.1 to 6.9", and a step keeps validity.
+-- Request 4 has mended the steps of document 01: 6.2 to 6.4 run for an all-zero frame, too.
 pub record Demand2 (L-ACF : List ℤ) (lags : List ℕ) (scalvad : ℤ) (s : State) (r : Answer) : Type 0 where
   pub clauses : r .refusal ≡ 0 → r ≡ acceptedOf L-ACF lags scalvad s
   pub kept : validOf s ≡ true → validOf (r .next) ≡ true

@@ -16,15 +16,15 @@ use mir.Val.{SFits}
 use Rattle.numbers.specs.Sum.{at}
 use Rattle.numbers.proofs.Parts.{zarith, of, sign, le-yes}
 use Rattle.rows.specs.Rows.{all}
-use Rattle.rows.proofs.Choice.{and-left, and-right, either, by-test, eqZ-is, eqZ-yes}
+use Rattle.rows.proofs.Choice.{and-left, and-right, either, eqZ-is, eqZ-yes}
 use Rattle.rows.proofs.All.{all-at}
 use Rattle.rows.specs.Choice.{eqZ, within}
 use Rattle.pairs.specs.Pairs.{greaterOf}
 use Rattle.energy.specs.Energy.{energyOf}
 use Rattle.energy.specs.declared.Energies.{Energies}
 use Rattle.energy.proofs.Range.{Frame, Filter, energy-loud}
-use Rattle.averages.specs.Averages.{averageOf}
-use Rattle.averages.proofs.Pointers.{Pointer}
+use Rattle.averages.specs.Averages.{LAST-SACF, LAST-SAV0, averageOf}
+use Rattle.averages.proofs.Pointers.{Pointer, next-pointer, average-inside}
 use Rattle.averages.proofs.Kept.{Kept27, Kept36, kept27, kept36, Incoming, average-keeps}
 use Rattle.predictor.proofs.Bounds.{predicted-whitening}
 use Rattle.lags.proofs.Range.{lagcount-le}
@@ -39,7 +39,7 @@ use Rattle.state.proofs.Facts.{valid, valid-back, between, le-fact, lag}
 use Rattle.detector.specs.declared.Middle.{Middle}
 use Rattle.detector.specs.declared.Answer.{Answer}
 use Rattle.detector.specs.Refusal.{scaleOk, acfOk, lagsOk, refusalOf}
-use Rattle.detector.specs.Step.{spectralOf, unmovedOf, movedOf, acceptedOf, stepOf}
+use Rattle.detector.specs.Step.{spectralOf, acceptedOf, stepOf}
 use Rattle.detector.proofs.Table.{number-0, step-accepted, refused-answer, nine, four}
 
 -- the lent numbers are of 32 bits
@@ -97,6 +97,17 @@ accepted L-ACF lags scalvad s e =
       each-lag = lags-in lags (four L-ACF lags (h .0)) (h .4);
     }
 
+-- an accepted frame leaves pointers that name frames of their histories, also where its numbers are not known to be of 32 bits
+pub next-pointers : (L-ACF : List ℤ) (lags : List ℕ) (scalvad : ℤ) (s : State) → refusalOf L-ACF lags scalvad s ≡ 0
+    → Pointer LAST-SACF (stepOf L-ACF lags scalvad s .next .ptsacf) × Pointer LAST-SAV0 (stepOf L-ACF lags scalvad s .next .ptsav0)
+unfolding acceptedOf spectralOf
+next-pointers L-ACF lags scalvad s e =
+    let v = accepted L-ACF lags scalvad s e .state in
+    rw (step-accepted L-ACF lags scalvad s e, average-inside L-ACF scalvad (s .sacf) (s .ptsacf) (s .sav0) (s .ptsav0) (v .ptsacf-last) (v .ptsav0-last)) (
+      next-pointer LAST-SACF (s .ptsacf) refl (record { within = v .ptsacf-last; nines = v .ptsacf-nines }),
+      next-pointer LAST-SAV0 (s .ptsav0) refl (record { within = v .ptsav0-last; nines = v .ptsav0-nines }),
+    )
+
 -- ---- the filter, and what 6.2 to 6.4 leave behind
 pub record Filtering (rvad : List ℤ) (normrvad : ℤ) : Type 0 where
   pub size : length rvad ≡ 9
@@ -128,12 +139,8 @@ module _ (s : State) (shape : Shaped s) (v : Valid s) where
   pub sums-at-was : Pointer 27 (s .ptsav0)
   sums-at-was = record { within = v .ptsav0-last; nines = v .ptsav0-nines }
 
-  unmoved-keeps : Moving (unmovedOf s)
-  unfolding unmovedOf
-  unmoved-keeps = record { frames = frames-was; frames-at = frames-at-was; sums = sums-was; sums-at = sums-at-was; filter = filter-was }
-
   module _ (L-ACF : List ℤ) (scalvad : ℤ) (i : Incoming L-ACF scalvad) where
-    spectral-keeps : Moving (spectralOf L-ACF scalvad s)
+    pub spectral-keeps : Moving (spectralOf L-ACF scalvad s)
     unfolding spectralOf weightOf
     spectral-keeps =
         let a = average-keeps L-ACF scalvad (s .sacf) (s .ptsacf) (s .sav0) (s .ptsav0) i frames-was frames-at-was sums-was sums-at-was in
@@ -151,10 +158,6 @@ module _ (s : State) (shape : Shaped s) (v : Valid s) where
                 norm = record { from = f .norm-lo; to = f .norm-hi };
               };
         }
-
-    pub moved-keeps : Moving (movedOf L-ACF scalvad s)
-    unfolding movedOf
-    moved-keeps = by-test Moving (eqZ (at L-ACF 0) (pos 0)) (unmovedOf s) (spectralOf L-ACF scalvad s) (λ t. unmoved-keeps) (λ t. spectral-keeps)
 
 -- a number that is not negative and not 0
 above-zero : (z : ℤ) → pos 0 ≤ℤ z → eqZ z (pos 0) ≡ false → pos 1 ≤ℤ z
@@ -186,7 +189,7 @@ module _ (L-ACF : List ℤ) (lags : List ℕ) (scalvad : ℤ) (s : State) (fits 
     e = energyOf L-ACF scalvad (s .rvad) (s .normrvad)
 
     abbrev pub m : Middle
-    m = movedOf L-ACF scalvad s
+    m = spectralOf L-ACF scalvad s
 
     abbrev pub was : Kept
     was = record { thvad = s .thvad; adaptcount = s .adaptcount; rvad = s .rvad; normrvad = s .normrvad }
@@ -199,7 +202,7 @@ module _ (L-ACF : List ℤ) (lags : List ℕ) (scalvad : ℤ) (s : State) (fits 
     vvad ptch = greaterOf (e .pvad) (k ptch .thvad)
 
     pub moving : Moving m
-    moving = moved-keeps s shape v L-ACF scalvad incoming
+    moving = spectral-keeps s shape v L-ACF scalvad incoming
 
     pub sound : (ptch : Bool) → Sound (k ptch)
     sound ptch =

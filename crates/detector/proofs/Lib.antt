@@ -3,3 +3,4 @@ pub mod Keeps
 pub mod Frames
 pub mod Run
 pub mod Sentence
+pub mod Silence

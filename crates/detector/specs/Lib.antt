@@ -2,4 +2,5 @@ pub mod Refusal
 pub mod Step
 pub mod Run
 pub mod Sentence
+pub mod Silence
 pub mod Worked

@@ -5,8 +5,7 @@ use Prim.Native.Nat.{ℕ}
 use lib.Dec.{eqb}
 use lib.IntN.{ℤ, pos}
 use lib.ListN.{getD}
-use Rattle.numbers.specs.Sum.{at}
-use Rattle.rows.specs.Choice.{IF_THEN_ELSE_, eqZ}
+use Rattle.rows.specs.Choice.{IF_THEN_ELSE_}
 use Rattle.pairs.specs.Pairs.{pair, greaterOf}
 use Rattle.energy.specs.Energy.{energyOf}
 use Rattle.averages.specs.Averages.{averageOf}
@@ -21,7 +20,7 @@ use Rattle.detector.specs.declared.Middle.{Middle}
 use Rattle.detector.specs.declared.Answer.{Answer}
 use Rattle.detector.specs.Refusal.{refusalOf}
 
--- 6.2, 6.3 and 6.4
+-- 6.2, 6.3 and 6.4, which run for every accepted frame: the exit of 6.1 at an all-zero frame goes on with them
 unfoldable pub spectralOf : List ℤ → ℤ → State → Middle
 spectralOf L-ACF scalvad s =
     let a = averageOf L-ACF scalvad (s .sacf) (s .ptsacf) (s .sav0) (s .ptsav0) in
@@ -29,20 +28,11 @@ spectralOf L-ACF scalvad s =
     let d = compareOf (a .av0) (f .rav1) (f .normrav1) (s .lastdm) in
     record { sacf = a .sacf; ptsacf = a .ptsacf; sav0 = a .sav0; ptsav0 = a .ptsav0; lastdm = d .dm; stat = d .stat; rav1 = f .rav1; normrav1 = f .normrav1 }
 
--- where they are not run: the histories and lastdm stay, and stat is false. (The filter is then not looked at: 6.6 stops at the level)
-unfoldable pub unmovedOf : State → Middle
-unmovedOf s =
-    record { sacf = s .sacf; ptsacf = s .ptsacf; sav0 = s .sav0; ptsav0 = s .ptsav0; lastdm = s .lastdm; stat = false; rav1 = s .rvad; normrav1 = s .normrvad }
-
--- document 01's reading of the all-zero frame: 6.2 to 6.4 are not run
-unfoldable pub movedOf : List ℤ → ℤ → State → Middle
-movedOf L-ACF scalvad s = IF eqZ (at L-ACF 0) (pos 0) THEN unmovedOf s ELSE spectralOf L-ACF scalvad s
-
 -- a frame that is accepted
 unfoldable pub acceptedOf : List ℤ → List ℕ → ℤ → State → Answer
 acceptedOf L-ACF lags scalvad s =
     let e = energyOf L-ACF scalvad (s .rvad) (s .normrvad) in  -- 6.1
-    let m = movedOf L-ACF scalvad s in  -- 6.2 to 6.4
+    let m = spectralOf L-ACF scalvad s in  -- 6.2 to 6.4
     let ptch = ptchOf (s .oldlagcount) (s .veryoldlagcount) in  -- 6.5, from the frames before
     let kept : Kept = record { thvad = s .thvad; adaptcount = s .adaptcount; rvad = s .rvad; normrvad = s .normrvad } in
     let k = adaptOf (e .acf0) (e .pvad) ptch (m .stat) (m .rav1) (m .normrav1) kept in  -- 6.6

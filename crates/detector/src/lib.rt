@@ -141,35 +141,6 @@ fn spectral(acf: [i32; 9], scalvad: i16, s: State) -> Middle
     }
 }
 
-// The same where they are not run: what was there before.
-fn unmoved(s: State) -> Middle
-    ensures { λ r. ⌜ r ≡ clause.unmovedOf s ⌝ }
-{
-    let sacf = s.sacf;
-    let sav0 = s.sav0;
-    let rvad = s.rvad;
-    Middle {
-        sacf: sacf,
-        ptsacf: s.ptsacf,
-        sav0: sav0,
-        ptsav0: s.ptsav0,
-        lastdm: s.lastdm,
-        stat: false,
-        rav1: rvad,
-        normrav1: s.normrvad,
-    }
-}
-
-// The same of any frame: 6.2 to 6.4 are not run for an all-zero frame.
-fn moved(acf: [i32; 9], scalvad: i16, s: State) -> Middle
-    ensures { λ r. ⌜ r ≡ clause.movedOf acf scalvad s ⌝ }
-{
-    if acf[0] == 0 {
-        return unmoved(s);
-    }
-    spectral(acf, scalvad, s)
-}
-
 // A frame that is accepted.
 fn accepted(acf: [i32; 9], lags: [u16; 4], scalvad: i16, s: State) -> Answer
     ensures { λ r. ⌜ r ≡ clause.acceptedOf acf lags scalvad s ⌝ }
@@ -179,7 +150,7 @@ fn accepted(acf: [i32; 9], lags: [u16; 4], scalvad: i16, s: State) -> Answer
     let e = energy(acf, scalvad, rvad, s.normrvad);
     let acf0 = e.acf0;
     let pvad = e.pvad;
-    let m = moved(acf, scalvad, s);
+    let m = spectral(acf, scalvad, s);
     let rav1 = m.rav1;
     let kept = Kept {
         thvad: thvad,

@@ -9,7 +9,7 @@ use Rattle.threshold.specs.Ways.{leftBy}
 use Rattle.threshold.proofs.Ways.{by-way}
 use Rattle.state.specs.declared.State.{State}
 use Rattle.detector.specs.declared.Answer.{Answer}
-use Rattle.detector.specs.Step.{movedOf, acceptedOf}
+use Rattle.detector.specs.Step.{spectralOf, acceptedOf}
 use Rattle.detector.specs.Run.{Frame, answerTo}
 use Rattle.detector.proofs.Table.{accepted-0, step-accepted}
 use Rattle.detector.proofs.Keeps.{accepted}
@@ -23,7 +23,7 @@ keptOf s = record { thvad = s .thvad; adaptcount = s .adaptcount; rvad = s .rvad
 -- an answer a to a frame, from the state s
 abbrev pub Left : State → Frame → Answer → Type 0
 Left s f a =
-    keptOf (a .next) ≡ leftBy (thresholdReason s (a .acf0) (a .stat)) (a .pvad) (movedOf (f .L-ACF) (f .scalvad) s .rav1) (movedOf (f .L-ACF) (f .scalvad) s .normrav1) (keptOf s)
+    keptOf (a .next) ≡ leftBy (thresholdReason s (a .acf0) (a .stat)) (a .pvad) (spectralOf (f .L-ACF) (f .scalvad) s .rav1) (spectralOf (f .L-ACF) (f .scalvad) s .normrav1) (keptOf s)
 
 accepted-left : (s : State) (f : Frame) → Left s f (acceptedOf (f .L-ACF) (f .lags) (f .scalvad) s)
 unfolding acceptedOf thresholdReason
@@ -41,5 +41,5 @@ module _ (s : State) (f : Frame) (ok : answerTo s f .refusal ≡ 0) where
       let v = accepted (f .L-ACF) (f .lags) (f .scalvad) s (accepted-0 (f .L-ACF) (f .lags) (f .scalvad) s ok) .state in
       let a = answerTo s f in
       let w = subst WaitingIn e (waiting-in (a .acf0) _ (a .stat) (s .adaptcount) (v .adaptcount .from) (v .adaptcount .to)) in
-      let l = left-by ∙ ap (λ (x : Way). leftBy x (a .pvad) (movedOf (f .L-ACF) (f .scalvad) s .rav1) (movedOf (f .L-ACF) (f .scalvad) s .normrav1) (keptOf s)) e in
+      let l = left-by ∙ ap (λ (x : Way). leftBy x (a .pvad) (spectralOf (f .L-ACF) (f .scalvad) s .rav1) (spectralOf (f .L-ACF) (f .scalvad) s .normrav1) (keptOf s)) e in
       (ap (λ (x : Kept). x .adaptcount) l, w .0, w .1)

@@ -9,7 +9,7 @@ use Rattle.detector.specs.Step.{stepOf}
 use Rattle.rows.proofs.Choice.{not-true, not-false}
 use Rattle.card.specs.Run.{runOf, stateOf, narrowOf, answerOf, lengthsOf, stepNumber}
 use Rattle.detector.proofs.Table.{accepted-0}
-use Rattle.card.proofs.Pointed.{next-in}
+use Rattle.detector.proofs.Keeps.{next-pointers}
 use Rattle.card.proofs.Answers.{all-lengths, no-acf, no-lags, no-run, no-answer, number-1, number-5, number-of, refused, done-run, done-answer}
 use Rattle.card.proofs.lindenflax_step.Statement.{statement}
 use Rattle.card.proofs.lindenflax_step.Tie as tie
@@ -87,7 +87,8 @@ packed-requires c κs =
     let s = c .before .before .before .before .before .before .before .before .before .before .before .before .before .before .before .before in
     let r = c .before .before .before .before .before in
     let e = answer-is r in
-    rw e (next-in (s .args .acf .now) (s .args .lags .now) (s .args .scale) (stateOf (s .args .state .now)) (accepted-0 _ _ _ _ (ap (λ (a : Answer). a .refusal) (sym e) ∙ c .before .before .before .before .if6 .left)))
+    let p = next-pointers (s .args .acf .now) (s .args .lags .now) (s .args .scale) (stateOf (s .args .state .now)) (accepted-0 _ _ _ _ (ap (λ (a : Answer). a .refusal) (sym e) ∙ c .before .before .before .before .if6 .left)) in
+    rw e (omega (arith, p .0 .within), p .1 .within)
 
 put-requires : tie.Need-put-requires
 put-requires c κs = search needs

@@ -21,14 +21,14 @@ use Rattle.hangover.specs.Hangover.{hangoverOf}
 use Rattle.state.specs.declared.State.{State}
 use Rattle.detector.specs.declared.Middle.{Middle}
 use Rattle.detector.specs.declared.Answer.{Answer}
-use Rattle.detector.specs.Step.{movedOf, acceptedOf}
+use Rattle.detector.specs.Step.{spectralOf, acceptedOf}
 use Rattle.detector.proofs.accepted.Statement.{statement}
 use Rattle.detector.proofs.accepted.Tie as tie
 
 -- the answer, from what the clauses gave, one equation for each and for each number that is read back
 assembled : (L-ACF : List ℤ) (lags : List ℕ) (scalvad : ℤ) (s : State) {e : Energies} {m : Middle} {p v : Bool} {k : Kept} {h : Hung} {n d a b r o w : ℤ}
     → e ≡ energyOf L-ACF scalvad (s .rvad) (s .normrvad)
-    → m ≡ movedOf L-ACF scalvad s
+    → m ≡ spectralOf L-ACF scalvad s
     → p ≡ ptchOf (s .oldlagcount) (s .veryoldlagcount)
     → k ≡ adaptOf (e .acf0) (e .pvad) p (m .stat) (m .rav1) (m .normrav1) (record { thvad = s .thvad; adaptcount = s .adaptcount; rvad = s .rvad; normrvad = s .normrvad })
     → v ≡ greaterOf (e .pvad) (k .thvad)
@@ -56,10 +56,10 @@ old-was c = search needs
 very-was : (c : tie.Start) → SFits w16 (c .args .s .veryoldlagcount)
 very-was c = search needs
 
-norm-made : (c : tie.After-moved) → SFits w16 (c .moved .result .normrav1)
+norm-made : (c : tie.After-spectral) → SFits w16 (c .spectral .result .normrav1)
 norm-made c = search needs
 
-dm-fits : (c : tie.After-moved) → SFits w32 (c .moved .result .lastdm)
+dm-fits : (c : tie.After-spectral) → SFits w32 (c .spectral .result .lastdm)
 dm-fits c = search needs
 
 norm-fits : (c : tie.After-adapt) → SFits w16 (c .adapt .result .normrvad)
@@ -80,8 +80,8 @@ energy-is c =
     let g = norm-was (c .before .before .before .before) in
     simp zreads at (c .energy .ensures)
 
-moved-is : (c : tie.After-moved) → c .moved .result ≡ movedOf (c .before .before .before .before .before .before .before .args .acf) (c .before .before .before .before .before .before .before .args .scalvad) (c .before .before .before .before .before .before .before .args .s)
-moved-is c = let f = c .before .before .before .before .before .before .before .fits .scalvad in simp zreads at (c .moved .ensures)
+spectral-is : (c : tie.After-spectral) → c .spectral .result ≡ spectralOf (c .before .before .before .before .before .before .before .args .acf) (c .before .before .before .before .before .before .before .args .scalvad) (c .before .before .before .before .before .before .before .args .s)
+spectral-is c = let f = c .before .before .before .before .before .before .before .fits .scalvad in simp zreads at (c .spectral .ensures)
 
 ptch-is : (c : tie.After-ptch) → c .ptch .result ≡ ptchOf (c .before .before .before .before .before .before .before .before .before .before .before .before .args .s .oldlagcount) (c .before .before .before .before .before .before .before .before .before .before .before .before .args .s .veryoldlagcount)
 ptch-is c =
@@ -92,7 +92,7 @@ ptch-is c =
 abbrev was : (c : tie.Start) → Kept
 was c = record { thvad = c .args .s .thvad; adaptcount = c .args .s .adaptcount; rvad = c .args .s .rvad; normrvad = c .args .s .normrvad }
 
-adapt-is : (c : tie.After-adapt) → c .adapt .result ≡ adaptOf (c .before .before .before .before .before .before .before .before .before .before .energy .result .acf0) (c .before .before .before .before .before .before .before .before .before .before .energy .result .pvad) (c .before .before .ptch .result) (c .before .before .before .before .before .before .before .moved .result .stat) (c .before .before .before .before .before .before .before .moved .result .rav1) (c .before .before .before .before .before .before .before .moved .result .normrav1) (was (c .before .before .before .before .before .before .before .before .before .before .before .before .before .before))
+adapt-is : (c : tie.After-adapt) → c .adapt .result ≡ adaptOf (c .before .before .before .before .before .before .before .before .before .before .energy .result .acf0) (c .before .before .before .before .before .before .before .before .before .before .energy .result .pvad) (c .before .before .ptch .result) (c .before .before .before .before .before .before .before .spectral .result .stat) (c .before .before .before .before .before .before .before .spectral .result .rav1) (c .before .before .before .before .before .before .before .spectral .result .normrav1) (was (c .before .before .before .before .before .before .before .before .before .before .before .before .before .before))
 adapt-is c =
     let f = norm-made (c .before .before .before .before .before .before .before) in
     let g = adapt-was (c .before .before .before .before .before .before .before .before .before .before .before .before .before .before) in
@@ -108,8 +108,8 @@ hangover-is c =
 energy-requires : tie.Need-energy-requires
 energy-requires c κs = search needs
 
-moved-requires : tie.Need-moved-requires
-moved-requires c κs = search needs
+spectral-requires : tie.Need-spectral-requires
+spectral-requires c κs = search needs
 
 ptch-requires : tie.Need-ptch-requires
 ptch-requires c κs = search needs
@@ -141,7 +141,7 @@ returns c =
     let s = c .before .before .before .before .before .before .before .before .before .before .before .before .before .before .before .before .before .before .before .before .before .before .before .before .before .before .before in
     assembled (s .args .acf) (s .args .t2) (s .args .scalvad) (s .args .s)
     (energy-is e)
-    (moved-is m)
+    (spectral-is m)
     (ptch-is p)
     (adapt-is k)
     (g .greater .ensures)
@@ -159,7 +159,7 @@ accepted-spec =
     tie.close
     (tie.spec
     energy-requires
-    moved-requires
+    spectral-requires
     ptch-requires
     adapt-requires
     greater-requires
