@@ -47,15 +47,9 @@ use Rattle.detector.specs.declared.Answer.{Answer}
 use Rattle.detector.specs.Refusal.{refusalOf}
 use Rattle.detector.specs.Step.{spectralOf, acceptedOf, stepOf}
 use Rattle.detector.specs.Run.{Frame, answerTo, stateFrom}
-use Rattle.detector.specs.Silence.{zeros, nothing, FlagsFound, SilentFrame, SilentFrames, NoSpectrums, Silence, Forgotten, EightForget, SteadyNext}
+use Rattle.detector.specs.Silence.{zeros, nothing, SilentFrame, SilentFrames, NoSpectrums, Silence, Forgotten, EightForget, SteadyNext}
 use Rattle.detector.proofs.Table.{accepted-0, step-accepted}
 use Rattle.detector.proofs.Keeps.{Accepted, accepted}
-
--- the flags of any accepted frame, by what 6.2 to 6.4 find
-pub flags-found : (L-ACF : List ℤ) (lags : List ℕ) (scalvad : ℤ) (s : State) → refusalOf L-ACF lags scalvad s ≡ 0 → FlagsFound L-ACF lags scalvad s
-unfolding acceptedOf
-flags-found L-ACF lags scalvad s ok =
-    (ap (λ (r : Answer). r .vvad) (step-accepted L-ACF lags scalvad s ok), ap (λ (r : Answer). r .vad) (step-accepted L-ACF lags scalvad s ok))
 
 -- 6.6 of silence: the level goes before all that 6.2 to 6.4 find
 at-level : (ptch stat : Bool) (rav1 : List ℤ) (normrav1 : ℤ) (k : Kept) → adaptOf silent silent ptch stat rav1 normrav1 k ≡ record { thvad = PLEV; adaptcount = k .adaptcount; rvad = k .rvad; normrvad = k .normrvad }
@@ -139,7 +133,7 @@ module _ (L-ACF : List ℤ) (lags : List ℕ) (scalvad : ℤ) (s : State) (ok : 
         normrvad = ap (λ (r : Answer). r .next .normrvad) is ∙ ap (λ (k : Kept). k .normrvad) (left _ _ _ _);
         vvad = vvad-is;
         vad = vad-is;
-        any-reading = λ stat rav1 normrav1. (vvad-is ∙ sym (raw _ stat rav1 normrav1), vad-is ∙ sym (sent _ stat rav1 normrav1));
+        any-reading = λ m. (vvad-is ∙ sym (raw _ (m .stat) (m .rav1) (m .normrav1)), vad-is ∙ sym (sent _ (m .stat) (m .rav1) (m .normrav1)));
       }
 
 -- the flags of an all-zero frame are the hangover's alone, and the frame enters the histories

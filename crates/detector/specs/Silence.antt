@@ -1,8 +1,8 @@
 -- An all-zero frame: L_ACF[0] is 0, and so are the eight others, since none of an accepted frame is larger. The exit of 6.1 goes on with 6.2: the frame
 -- enters the histories, and 6.2 to 6.4 run as for any other. Its own flags come from the hangover alone, and nothing is learned in it.
--- `flags-found`, `silent-frame`, `no-spectrum`, `silence-forgets` and `steady-next` in proofs/Silence.antt prove what stands here. Assumes nothing.
+-- `silent-frame`, `no-spectrum`, `silence-forgets` and `steady-next` in proofs/Silence.antt prove what stands here. Assumes nothing.
 use mathlib.Core.Path.{_≡_}
-use mathlib.Core.Bool.{Bool, true, false}
+use mathlib.Core.Bool.{true, false}
 use mathlib.Core.List.{List, [], _∷_}
 use Prim.Native.Nat.{ℕ}
 use lib.IntN.{ℤ, pos}
@@ -10,29 +10,26 @@ use lib.ListN.{length}
 use lib.Signed.{leZ}
 use Rattle.numbers.specs.Sum.{at}
 use Rattle.rows.specs.Rows.{row}
-use Rattle.pairs.specs.Pairs.{silent, greaterOf}
+use Rattle.pairs.specs.Pairs.{silent}
 use Rattle.energy.specs.Energy.{energyOf}
-use Rattle.energy.specs.declared.Energies.{Energies}
 use Rattle.averages.specs.Averages.{LAST-SACF, LAST-SAV0, L-av0Of, storedOf, L-av1Of, nextOf}
 use Rattle.predictor.specs.Schur.{vparOf}
 use Rattle.predictor.specs.Filter.{predictedOf}
 use Rattle.predictor.specs.declared.Filter.{Filter}
 use Rattle.spectrum.specs.Spectrum.{sav0Of, compareOf}
 use Rattle.spectrum.specs.declared.Compared.{Compared}
-use Rattle.lags.specs.Lags.{ptchOf}
-use Rattle.threshold.specs.Threshold.{PLEV, adaptOf}
-use Rattle.threshold.specs.declared.Kept.{Kept}
-use Rattle.hangover.specs.Hangover.{hangoverOf}
+use Rattle.threshold.specs.Threshold.{PLEV}
 use Rattle.state.specs.declared.State.{State}
 use Rattle.state.specs.Valid.{Shaped}
+use Rattle.detector.specs.declared.Middle.{Middle}
 use Rattle.detector.specs.declared.Answer.{Answer}
 use Rattle.detector.specs.Refusal.{refusalOf}
-use Rattle.detector.specs.Step.{spectralOf, stepOf}
+use Rattle.detector.specs.Step.{answeredOf, stepOf}
 use Rattle.detector.specs.Run.{Frame, answerTo, stateFrom}
 
 -- nine numbers that are all 0
 abbrev pub zeros : List ℤ
-zeros = pos 0 ∷ pos 0 ∷ pos 0 ∷ pos 0 ∷ pos 0 ∷ pos 0 ∷ pos 0 ∷ pos 0 ∷ pos 0 ∷ []
+zeros = row 9 (λ i. pos 0)
 
 module _ (L-ACF : List ℤ) (lags : List ℕ) (scalvad : ℤ) (s : State) where
   abbrev answer : Answer
@@ -48,19 +45,9 @@ module _ (L-ACF : List ℤ) (lags : List ℕ) (scalvad : ℤ) (s : State) where
   abbrev compared : Compared
   compared = compareOf av0 (filter .rav1) (filter .normrav1) (s .lastdm)
 
-  -- the flags, by 6.1 and 6.5 to 6.8, with any stat and any filter in the place of those that 6.4 and 6.3 find
-  abbrev vvadBy : Bool → List ℤ → ℤ → Bool
-  vvadBy stat rav1 normrav1 =
-      let e : Energies = energyOf L-ACF scalvad (s .rvad) (s .normrvad) in
-      let kept : Kept = record { thvad = s .thvad; adaptcount = s .adaptcount; rvad = s .rvad; normrvad = s .normrvad } in
-      greaterOf (e .pvad) (adaptOf (e .acf0) (e .pvad) (ptchOf (s .oldlagcount) (s .veryoldlagcount)) stat rav1 normrav1 kept .thvad)
-
-  abbrev vadBy : Bool → List ℤ → ℤ → Bool
-  vadBy stat rav1 normrav1 = hangoverOf (vvadBy stat rav1 normrav1) (s .burstcount) (s .hangcount) .vad
-
-  -- with the stat and the filter that 6.4 and 6.3 do find, these are the flags of the answer, if the frame is accepted (`flags-found`)
-  abbrev pub FlagsFound : Type 0
-  FlagsFound = let m = spectralOf L-ACF scalvad s in (answer .vvad ≡ vvadBy (m .stat) (m .rav1) (m .normrav1)) × (answer .vad ≡ vadBy (m .stat) (m .rav1) (m .normrav1))
+  -- the answer with anything in the place of what 6.2 to 6.4 find: where `spectralOf` stands in `acceptedOf`
+  abbrev answerBy : Middle → Answer
+  answerBy = answeredOf lags s (energyOf L-ACF scalvad (s .rvad) (s .normrvad))
 
   pub record SilentFrame : Type 0 where
     -- 6.1
@@ -82,8 +69,8 @@ module _ (L-ACF : List ℤ) (lags : List ℕ) (scalvad : ℤ) (s : State) where
     -- 6.7 and 6.8: no raw speech, and sent exactly if the hangover is not over
     pub vvad : answer .vvad ≡ false
     pub vad : answer .vad ≡ leZ (pos 0) (s .hangcount)
-    -- these flags do not depend on what 6.2 to 6.4 find: with any stat and any filter they are the same, and so by a reading that leaves silence out
-    pub any-reading : (stat : Bool) (rav1 : List ℤ) (normrav1 : ℤ) → (answer .vvad ≡ vvadBy stat rav1 normrav1) × (answer .vad ≡ vadBy stat rav1 normrav1)
+    -- these flags do not depend on what 6.2 to 6.4 find: they are the same with anything in its place, and so by a reading that leaves silence out
+    pub any-reading : (m : Middle) → (answer .vvad ≡ answerBy m .vvad) × (answer .vad ≡ answerBy m .vad)
 
 -- every all-zero frame that is accepted: its state is valid then, and may be any that is
 abbrev pub SilentFrames : Type 0

@@ -8,6 +8,7 @@ use lib.ListN.{getD}
 use Rattle.rows.specs.Choice.{IF_THEN_ELSE_}
 use Rattle.pairs.specs.Pairs.{pair, greaterOf}
 use Rattle.energy.specs.Energy.{energyOf}
+use Rattle.energy.specs.declared.Energies.{Energies}
 use Rattle.averages.specs.Averages.{averageOf}
 use Rattle.predictor.specs.Filter.{predictedOf}
 use Rattle.spectrum.specs.Spectrum.{compareOf}
@@ -28,11 +29,9 @@ spectralOf L-ACF scalvad s =
     let d = compareOf (a .av0) (f .rav1) (f .normrav1) (s .lastdm) in
     record { sacf = a .sacf; ptsacf = a .ptsacf; sav0 = a .sav0; ptsav0 = a .ptsav0; lastdm = d .dm; stat = d .stat; rav1 = f .rav1; normrav1 = f .normrav1 }
 
--- a frame that is accepted
-unfoldable pub acceptedOf : List ℤ → List ℕ → ℤ → State → Answer
-acceptedOf L-ACF lags scalvad s =
-    let e = energyOf L-ACF scalvad (s .rvad) (s .normrvad) in  -- 6.1
-    let m = spectralOf L-ACF scalvad s in  -- 6.2 to 6.4
+-- 6.5 to 6.9 and the answer, from what 6.1 and 6.2 to 6.4 have found
+abbrev pub answeredOf : List ℕ → State → Energies → Middle → Answer
+answeredOf lags s e m =
     let ptch = ptchOf (s .oldlagcount) (s .veryoldlagcount) in  -- 6.5, from the frames before
     let kept : Kept = record { thvad = s .thvad; adaptcount = s .adaptcount; rvad = s .rvad; normrvad = s .normrvad } in
     let k = adaptOf (e .acf0) (e .pvad) ptch (m .stat) (m .rav1) (m .normrav1) kept in  -- 6.6
@@ -63,6 +62,13 @@ acceptedOf L-ACF lags scalvad s =
             oldlag = getD lags 3 0;
           };
     }
+
+-- a frame that is accepted
+unfoldable pub acceptedOf : List ℤ → List ℕ → ℤ → State → Answer
+acceptedOf L-ACF lags scalvad s =
+    let e = energyOf L-ACF scalvad (s .rvad) (s .normrvad) in  -- 6.1
+    let m = spectralOf L-ACF scalvad s in  -- 6.2 to 6.4
+    answeredOf lags s e m
 
 -- a frame that is not: flags 0 and stat false, energies 0 in both parts, the state as given
 unfoldable pub refusedOf : ℕ → State → Answer
