@@ -1,8 +1,10 @@
 //! Measures the programs and the steps beside each other, for compare/bench, which says what is printed.
 //!
 //!     bench grow RUN_TRACE SECOND ROUNDS FILE..   a line for each file: frames, best seconds of each program, best of its processor's, peak kB
-//!     bench second FILE STEPS                     STEPS steps of the second implementation over the frames of FILE, again and again
-//!     bench steps FILE STEPS ROUNDS               these and the library's in turn: best seconds of each, best of the processor's
+//!     bench second FILE STEPS [SAMPLES]           STEPS steps of the second implementation over the frames of FILE, again and again
+//!     bench steps FILE STEPS ROUNDS [SAMPLES]     these and the library's in turn: best seconds of each, best of the processor's
+//!
+//! With SAMPLES, those of the frames of FILE, the steps are the downlink's.
 #[allow(dead_code)]
 #[path = "../crates/card/lindenflax.rs"]
 mod lindenflax;
@@ -10,12 +12,14 @@ mod lindenflax;
 #[path = "second.rs"]
 mod second;
 
-use lindenflax::{lindenflax_reset, lindenflax_step};
-use second::{Memory, LINE};
+use lindenflax::{lindenflax_downlink, lindenflax_reset, lindenflax_step};
+use second::{Memory, LINE, SAMPLES};
 use std::fs::File;
 use std::io::{Read, Write};
 use std::process::{exit, Command, Stdio};
 use std::time::Instant;
+
+const STATE: usize = 85;
 
 extern "C" {
     fn getrusage(who: i32, usage: *mut [i64; 18]) -> i32;
@@ -32,15 +36,21 @@ struct Frame {
     acf: [i32; 9],
     lags: [u16; 4],
     scale: i16,
+    samples: Option<Vec<i16>>,
     wide: (Vec<i64>, Vec<i64>, i64),
+    wide_samples: Option<Vec<i64>>,
 }
 
-fn frames(path: &str) -> Vec<Frame> {
-    let trace = std::fs::read(path).unwrap_or_else(|e| fail(&format!("{path}: {e}")));
+fn frames(path: &str, samples: Option<&String>) -> Vec<Frame> {
+    let read = |path: &str| std::fs::read(path).unwrap_or_else(|e| fail(&format!("{path}: {e}")));
+    let trace = read(path);
+    let samples = samples.map(|path| read(path));
     let mut out = Vec::new();
-    for line in trace.chunks(LINE) {
+    for (i, line) in trace.chunks(LINE).enumerate() {
         let wide = second::decode(line).unwrap_or_else(|n| fail(&format!("{path}: a line is refused: {n}")));
-        let mut f = Frame { acf: [0; 9], lags: [0; 4], scale: wide.2 as i16, wide };
+        let wide_samples = samples.as_ref().map(|s| second::samples_of(s, i));
+        let samples = wide_samples.as_ref().map(|s| s.iter().map(|x| *x as i16).collect());
+        let mut f = Frame { acf: [0; 9], lags: [0; 4], scale: wide.2 as i16, samples, wide, wide_samples };
         for i in 0..9 {
             f.acf[i] = f.wide.0[i] as i32;
         }
@@ -54,10 +64,14 @@ fn frames(path: &str) -> Vec<Frame> {
 
 /// How many of the steps from reset said speech.
 fn first(frames: &[Frame], steps: usize) -> usize {
-    let (mut state, mut answer, mut speech) = ([0i32; 84], [0i32; 6], 0);
-    unsafe { lindenflax_reset(state.as_mut_ptr(), 84) };
+    let (mut state, mut answer, mut speech) = ([0i32; STATE], [0i32; 6], 0);
+    unsafe { lindenflax_reset(state.as_mut_ptr(), STATE) };
     for f in frames.iter().cycle().take(steps) {
-        let n = unsafe { lindenflax_step(f.acf.as_ptr(), 9, f.lags.as_ptr(), 4, f.scale, state.as_mut_ptr(), 84, answer.as_mut_ptr(), 6) };
+        let (acf, lags, state, answer_to) = (f.acf.as_ptr(), f.lags.as_ptr(), state.as_mut_ptr(), answer.as_mut_ptr());
+        let n = match &f.samples {
+            None => unsafe { lindenflax_step(acf, 9, lags, 4, f.scale, state, STATE, answer_to, 6) },
+            Some(s) => unsafe { lindenflax_downlink(acf, 9, lags, 4, f.scale, s.as_ptr(), SAMPLES, state, STATE, answer_to, 6) },
+        };
         if n != 0 {
             fail(&format!("a step is refused: {n}"));
         }
@@ -69,7 +83,10 @@ fn first(frames: &[Frame], steps: usize) -> usize {
 fn other(frames: &[Frame], steps: usize) -> usize {
     let (mut memory, mut speech) = (Memory::reset(), 0);
     for f in frames.iter().cycle().take(steps) {
-        let r = second::step(&f.wide.0, &f.wide.1, f.wide.2, &memory);
+        let r = match &f.wide_samples {
+            None => second::step(&f.wide.0, &f.wide.1, f.wide.2, &memory),
+            Some(s) => second::downlink(&f.wide.0, &f.wide.1, f.wide.2, s, &memory),
+        };
         if r.refusal != 0 {
             fail(&format!("a step is refused: {}", r.refusal));
         }
@@ -156,9 +173,9 @@ fn main() {
                 println!("{frames} {:.6} {:.6} {:.6} {:.6} {} {}", a.0, b.0, a.1, b.1, peak(word(1), path), b.2);
             }
         }
-        "second" => println!("{}", other(&frames(word(1)), count(2))),
+        "second" => println!("{}", other(&frames(word(1), args.get(3)), count(2))),
         "steps" => {
-            let f = frames(word(1));
+            let f = frames(word(1), args.get(4));
             let (mut a, mut b) = ((f64::MAX, f64::MAX), (f64::MAX, f64::MAX));
             for _ in 0..count(3) {
                 let (x, y) = (timed(|| first(&f, count(2))), timed(|| other(&f, count(2))));

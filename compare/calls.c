@@ -2,11 +2,12 @@
  * Makes the calls of the library that it is told of on standard input, and writes what each of them left to standard output. The comparison runs
  * it beside itself, so that the library can be held against the second program on a machine of another processor too.
  *
- * A call is a letter, the scale, the lengths that four buffers are handed over with, how many bytes each of them holds, and these bytes. What it
- * left is the number that was returned, and the bytes of the four buffers. The letters and the order of the buffers:
+ * A call is a letter, the scale, the lengths that five buffers are handed over with, how many bytes each of them holds, and these bytes. What it
+ * left is the number that was returned, and the bytes of the five buffers. The letters and the order of the buffers:
  *
  *     Z  lindenflax_reset       state
  *     S  lindenflax_step        acf, lags, state, answer
+ *     D  lindenflax_downlink    acf, lags, samples, state, answer
  *     R  lindenflax_read_line   line, acf, lags, scale
  *     W  lindenflax_write_line  acf, lags, line
  */
@@ -15,12 +16,12 @@
 
 #include "lindenflax.h"
 
-enum { BUFFERS = 4, ROOM = 1024 };
+enum { BUFFERS = 5, ROOM = 1024 };
 
 typedef union {
     uint8_t bytes[ROOM];
     uint16_t lags[ROOM / 2];
-    int16_t scale[ROOM / 2];
+    int16_t shorts[ROOM / 2];
     int32_t longs[ROOM / 4];
 } buffer;
 
@@ -52,7 +53,8 @@ int main(void) {
         switch (letter) {
         case 'Z': number = lindenflax_reset(b[0].longs, n[0]); break;
         case 'S': number = lindenflax_step(b[0].longs, n[0], b[1].lags, n[1], scale, b[2].longs, n[2], b[3].longs, n[3]); break;
-        case 'R': number = lindenflax_read_line(b[0].bytes, n[0], b[1].longs, n[1], b[2].lags, n[2], b[3].scale, n[3]); break;
+        case 'D': number = lindenflax_downlink(b[0].longs, n[0], b[1].lags, n[1], scale, b[2].shorts, n[2], b[3].longs, n[3], b[4].longs, n[4]); break;
+        case 'R': number = lindenflax_read_line(b[0].bytes, n[0], b[1].longs, n[1], b[2].lags, n[2], b[3].shorts, n[3]); break;
         case 'W': number = lindenflax_write_line(b[0].longs, n[0], b[1].lags, n[1], scale, b[2].bytes, n[2]); break;
         default: fail("no such call");
         }

@@ -1,28 +1,30 @@
 //! Feeds the detector and the second program the same input, and stops at the first difference.
 //!
-//!     harness RUN_TRACE NIGHT_TOTALS WHY_TRACE CALLS TRACES SEED
+//!     harness RUN_TRACE NIGHT_TOTALS WHY_TRACE RUN_DOWNLINK CALLS TRACES SEED
 //!
-//! RUN_TRACE, NIGHT_TOTALS and WHY_TRACE are the programs and CALLS that of calls.c, which calls the static library; compare/on_x86_64 runs them all.
-//! TRACES is a folder of NAME.trace with NAME.expected beside it, SEED a number.
+//! RUN_TRACE, NIGHT_TOTALS, WHY_TRACE and RUN_DOWNLINK are the programs and CALLS that of calls.c, which calls the static library; compare/on_x86_64
+//! runs them all. TRACES is a folder of NAME.trace with NAME.expected beside it, and TRACES/downlink one with NAME.s16 too. SEED is a number.
 #[allow(dead_code)]
 #[path = "second.rs"]
 mod second;
 
-use second::{Answer, Memory, LINE};
+use second::{Answer, Memory, LINE, SAMPLES};
 use std::io::{Read, Write};
 use std::process::{exit, Command, Stdio};
 
-const STATE: usize = 84;
+const STATE: usize = 85;
+const BUFFERS: usize = 5;
 
 fn fail(what: &str) -> ! {
     println!("DIFFERENT: {what}");
     exit(1)
 }
 
-/// What a program writes that gets this input in these pieces.
-fn written(program: &str, input: &[u8], mut piece: impl FnMut() -> usize) -> Vec<u8> {
+/// What a program writes that gets these words, and this input in these pieces.
+fn written(program: &str, words: &[&str], input: &[u8], mut piece: impl FnMut() -> usize) -> Vec<u8> {
     let broken = |e: std::io::Error| -> ! { fail(&format!("{program}: {e}")) };
-    let mut child = Command::new("compare/on_x86_64").arg(program).stdin(Stdio::piped()).stdout(Stdio::piped()).spawn().unwrap_or_else(|e| broken(e));
+    let mut command = Command::new("compare/on_x86_64");
+    let mut child = command.arg(program).args(words).stdin(Stdio::piped()).stdout(Stdio::piped()).spawn().unwrap_or_else(|e| broken(e));
     let mut to = child.stdin.take().unwrap();
     let mut from = child.stdout.take().unwrap();
     let reader = std::thread::spawn(move || {
@@ -87,9 +89,9 @@ impl Call {
     fn asked(&self, out: &mut Vec<u8>) {
         out.push(self.letter as u8);
         out.extend(&self.scale.to_le_bytes()[..2]);
-        let four = |f: &dyn Fn(&Lent) -> usize| (0..4).flat_map(|i| (self.lent.get(i).map_or(0, f) as u32).to_le_bytes()).collect::<Vec<u8>>();
-        out.extend(four(&|b| b.length));
-        out.extend(four(&|b| b.width * b.before.len()));
+        let each = |f: &dyn Fn(&Lent) -> usize| (0..BUFFERS).flat_map(|i| (self.lent.get(i).map_or(0, f) as u32).to_le_bytes()).collect::<Vec<u8>>();
+        out.extend(each(&|b| b.length));
+        out.extend(each(&|b| b.width * b.before.len()));
         self.lent.iter().for_each(|b| out.extend(b.bytes(&b.before)));
     }
     fn right(&self) -> Vec<u8> {
@@ -127,7 +129,7 @@ impl Library<'_> {
     fn make(&mut self) {
         let mut asked = Vec::new();
         self.waiting.iter().for_each(|c| c.asked(&mut asked));
-        let left = written(self.program, &asked, || usize::MAX);
+        let left = written(self.program, &[], &asked, || usize::MAX);
         let mut rest = &left[..];
         for call in self.waiting.drain(..) {
             let right = call.right();
@@ -178,7 +180,7 @@ fn run_of(m: &Memory) -> Vec<i64> {
     r.push(m.pt_sacf);
     r.extend(m.l_sav0);
     r.extend([
-        m.pt_sav0, m.lastdm, m.e_thvad, m.m_thvad, m.adaptcount, m.burstcount, m.hangcount, m.oldlagcount, m.veryoldlagcount, m.oldlag,
+        m.pt_sav0, m.lastdm, m.e_thvad, m.m_thvad, m.adaptcount, m.burstcount, m.hangcount, m.oldlagcount, m.veryoldlagcount, m.oldlag, m.tone,
     ]);
     r
 }
@@ -200,6 +202,7 @@ fn memory_of(r: &[i64]) -> Memory {
         oldlagcount: r[81],
         veryoldlagcount: r[82],
         oldlag: r[83],
+        tone: r[84],
     }
 }
 
@@ -234,6 +237,7 @@ fn any_state(r: &mut Random) -> Memory {
     m.oldlagcount = r.from(0, 4);
     m.veryoldlagcount = r.from(0, 4);
     m.oldlag = r.from(40, 120);
+    m.tone = r.from(0, 1);
     m
 }
 
@@ -260,9 +264,82 @@ fn any_frame(r: &mut Random) -> (Vec<i64>, Vec<i64>, i64) {
     (acf, lags, scale)
 }
 
-/// The detector's step through the static library, held to the second program's.
-fn compare_step(library: &mut Library, acf: &[i64], lags: &[i64], scale: i64, m: &Memory) -> Answer {
-    let right = second::step(acf, lags, scale, m);
+/// The samples of a frame: noise, the ends of the range, single samples or none, a square wave, pulses, tones, and the kept ones.
+fn any_samples(r: &mut Random, kept: &[Vec<i64>]) -> Vec<i64> {
+    let level = [1, 3, 40, 300, 3000, 32767][r.next() as usize % 6];
+    match r.next() % 9 {
+        0 => (0..SAMPLES).map(|_| r.from(-32768, 32767)).collect(),
+        1 => (0..SAMPLES).map(|_| r.from(-level, level)).collect(),
+        2 => (0..SAMPLES).map(|_| [-32768, 32767][r.next() as usize % 2]).collect(),
+        3 => {
+            let mut samples = vec![0; SAMPLES];
+            for _ in 0..r.from(0, 3) {
+                samples[r.from(0, 159) as usize] = r.from(-32768, 32767);
+            }
+            samples
+        }
+        4 => {
+            let half = r.from(1, 40) as usize;
+            (0..SAMPLES).map(|i| if i / half % 2 == 0 { level } else { -level - 1 }).collect()
+        }
+        5 => {
+            let every = r.from(1, 6) as usize;
+            (0..SAMPLES).map(|i| if i % every == 0 { level } else { 0 }).collect()
+        }
+        6 | 7 => {
+            // half of them near the pole test's 385 Hz, and half with noise beside the tone
+            let part = r.next() as f64 / u64::MAX as f64;
+            let hertz = if r.one_in(2) { 365.0 + 40.0 * part } else { 300.0 + 3400.0 * part };
+            let noise = if r.one_in(2) { level / r.from(3, 30) } else { 0 };
+            let turn = std::f64::consts::TAU * hertz / 8000.0;
+            let start = r.from(0, 159) as f64;
+            let sample = |i: usize| (level as f64 * (turn * (start + i as f64)).sin()).round() as i64;
+            (0..SAMPLES).map(|i| (sample(i) + r.from(-noise, noise)).clamp(-32768, 32767)).collect()
+        }
+        _ => kept[r.next() as usize % kept.len()].clone(),
+    }
+}
+
+/// Samples at the edge of the tone test: two frames that differ by 1 in one sample, and of which one is a tone.
+fn edge_samples(r: &mut Random, kept: &[Vec<i64>]) -> [Vec<i64>; 2] {
+    let mut find = |tone: bool| loop {
+        let samples = any_samples(r, kept);
+        if second::tone(&samples) == tone {
+            return samples;
+        }
+    };
+    let (mut tone, mut none) = (find(true), find(false));
+    loop {
+        let half: Vec<i64> = tone.iter().zip(&none).map(|(x, y)| (x + y) >> 1).collect();
+        if half == tone || half == none {
+            break;
+        }
+        if second::tone(&half) {
+            tone = half;
+        } else {
+            none = half;
+        }
+    }
+    // the two are close now, and go on sample by sample
+    for i in 0..SAMPLES {
+        while tone[i] != none[i] {
+            let mut near = tone.clone();
+            near[i] += (none[i] - tone[i]).signum();
+            if !second::tone(&near) {
+                return [tone, near];
+            }
+            tone = near;
+        }
+    }
+    fail("a frame is a tone and none")
+}
+
+/// The detector's step through the static library, the downlink's where there are samples, held to the second program's.
+fn compare_step(library: &mut Library, acf: &[i64], lags: &[i64], scale: i64, samples: Option<&[i64]>, m: &Memory) -> Answer {
+    let right = match samples {
+        None => second::step(acf, lags, scale, m),
+        Some(samples) => second::downlink(acf, lags, scale, samples, m),
+    };
     if right.refusal == 0 && !right.next.valid() {
         fail(&format!("a step gave a state that is not valid: {:?}", right.next));
     }
@@ -271,17 +348,11 @@ fn compare_step(library: &mut Library, acf: &[i64], lags: &[i64], scale: i64, m:
         0 => (run_of(&right.next), vec![right.vad, right.vvad, right.acf0.0, right.acf0.1, right.pvad.0, right.pvad.1]),
         _ => (state.clone(), answer.clone()),
     };
-    library.call(Call {
-        letter: 'S',
-        scale,
-        lent: vec![
-            Lent::kept(4, acf),
-            Lent::kept(2, lags),
-            Lent { length: STATE, width: 4, before: state, after: next },
-            Lent { length: 6, width: 4, before: answer, after: told },
-        ],
-        number: right.refusal,
-    });
+    let mut lent = vec![Lent::kept(4, acf), Lent::kept(2, lags)];
+    lent.extend(samples.map(|s| Lent::kept(2, s)));
+    lent.push(Lent { length: STATE, width: 4, before: state, after: next });
+    lent.push(Lent { length: 6, width: 4, before: answer, after: told });
+    library.call(Call { letter: if samples.is_some() { 'D' } else { 'S' }, scale, lent, number: right.refusal });
     right
 }
 
@@ -315,6 +386,26 @@ fn any_line(r: &mut Random, (acf, lags, scale): &(Vec<i64>, Vec<i64>, i64)) -> V
         }
     }
     line
+}
+
+/// A file of samples for so many lines, new ones for one in so many of them; now and then too short, too long, or cut inside a number.
+fn any_samples_file(r: &mut Random, kept: &[Vec<i64>], lines: usize, new: u64) -> Vec<u8> {
+    let mut out = Vec::new();
+    let mut samples = any_samples(r, kept);
+    for _ in 0..lines {
+        if r.one_in(new) {
+            samples = any_samples(r, kept);
+        }
+        out.extend(samples.iter().flat_map(|x| (*x as i16).to_le_bytes()));
+    }
+    match r.next() % 16 {
+        0 => out.clear(),
+        1 => out.truncate(r.from(0, out.len() as i64) as usize),
+        2 | 3 => out.truncate(out.len().saturating_sub(r.from(1, 2 * SAMPLES as i64 + 1) as usize)),
+        4 | 5 => out.extend((0..r.from(1, 1000)).map(|_| r.next() as u8)),
+        _ => {}
+    }
+    out
 }
 
 /// A trace of lines, some of them damaged; the frame is a new one for one in so many of them.
@@ -418,7 +509,7 @@ fn compare_lines(library: &mut Library, r: &mut Random) -> [usize; 4] {
 }
 
 /// Steps from states that were changed by hand, most of them not valid: how many, and how many were refused with 5.
-fn compare_changed(library: &mut Library, r: &mut Random) -> [usize; 2] {
+fn compare_changed(library: &mut Library, r: &mut Random, kept: &[Vec<i64>]) -> [usize; 2] {
     let mut count = [0; 2];
     let mut tell = |refusal: i64| {
         count[0] += 1;
@@ -426,10 +517,12 @@ fn compare_changed(library: &mut Library, r: &mut Random) -> [usize; 2] {
     };
     let (acf, lags) = ([1i64, 0, 0, 0, 0, 0, 0, 0, 0], [40i64; 4]);
     for i in 0..STATE {
-        for x in [-2147483648, -536870913, -100000, -33, -1, 1, 28, 100000, 536870912, 2147483647] {
+        for x in [-2147483648, -536870913, -100000, -33, -1, 1, 2, 28, 100000, 536870912, 2147483647] {
             let mut run = run_of(&Memory::reset());
             run[i] = x;
-            tell(compare_step(library, &acf, &lags, 0, &memory_of(&run)).refusal);
+            for samples in [None, Some(&[0i64; SAMPLES][..])] {
+                tell(compare_step(library, &acf, &lags, 0, samples, &memory_of(&run)).refusal);
+            }
         }
     }
     for _ in 0..100_000 {
@@ -445,7 +538,8 @@ fn compare_changed(library: &mut Library, r: &mut Random) -> [usize; 2] {
             run[i] = x as i32 as i64;
         }
         let (acf, lags, scale) = any_frame(r);
-        tell(compare_step(library, &acf, &lags, scale, &memory_of(&run)).refusal);
+        let samples = r.one_in(8).then(|| any_samples(r, kept));
+        tell(compare_step(library, &acf, &lags, scale, samples.as_deref(), &memory_of(&run)).refusal);
     }
     count
 }
@@ -463,14 +557,109 @@ fn compare_lengths(library: &mut Library) -> usize {
     for first in [24576, 0] {
         let mut state = [&reset[..], &[0, 0]].concat();
         state[0] = first;
-        for (a, l, s, k) in (0..11 * 6 * 86 * 8).map(|i| (i % 11, i / 11 % 6, i / 66 % 86, i / 5676)) {
+        let said = |length: usize, width: usize, held: &[i64]| Lent { length, ..Lent::kept(width, held) };
+        for (a, l, s, k) in (0..11 * 6 * 87 * 8).map(|i| (i % 11, i / 11 % 6, i / 66 % 87, i / 5742)) {
             if (a, l, s, k) == (9, 4, STATE, 6) {
                 continue;
             }
-            let said = |length: usize, width: usize, held: &[i64]| Lent { length, ..Lent::kept(width, held) };
             let lent = vec![said(a, 4, &[1, 0, 0, 0, 0, 0, 0, 0, 0, 0, 0]), said(l, 2, &[40; 6]), said(s, 4, &state), said(k, 4, &[-7; 8])];
             library.call(Call { letter: 'S', scale: 0, lent, number: 1 });
             count += 1;
+        }
+        // the same on the downlink, with lengths near the right ones, and samples of the right length and of others
+        for (i, samples) in (0..256).flat_map(|i| [0, 1, 159, 160, 161, 320].map(|samples| (i, samples))) {
+            let (a, l, s, k) = ([0, 8, 9, 10][i % 4], [0, 3, 4, 5][i / 4 % 4], [0, 84, 85, 86][i / 16 % 4], [0, 5, 6, 7][i / 64]);
+            let right = (a, l, s, k) == (9, 4, STATE, 6);
+            if right && samples == SAMPLES {
+                continue;
+            }
+            let lent = vec![
+                said(a, 4, &[1, 0, 0, 0, 0, 0, 0, 0, 0, 0]),
+                said(l, 2, &[40; 5]),
+                said(samples, 2, &[32767; 2 * SAMPLES]),
+                said(s, 4, &state),
+                said(k, 4, &[-7; 7]),
+            ];
+            library.call(Call { letter: 'D', scale: 0, lent, number: if right { 8 } else { 1 } });
+            count += 1;
+        }
+    }
+    count
+}
+
+/// Downlink steps with every choice of the faults that a frame of right lengths can have: the first in the order 8, 5, 2, 3, 4 is the number. How many.
+fn compare_order(library: &mut Library) -> usize {
+    let mut count = 0;
+    for choice in 0..32 {
+        let bad = |i: usize| choice >> i & 1 == 1;
+        let first = [8, 5, 2, 3, 4].iter().enumerate().find(|(i, _)| bad(*i)).map_or(0, |(_, number)| *number);
+        for (samples, (at, x), scale, acf, lag) in (0..72).map(|i| {
+            let state = [(84, 2), (84, -1), (84, 256), (0, 0)][i / 3 % 4];
+            ([0, 159, 161][i % 3], state, [-1, 5][i / 12 % 2], [(0, -1), (8, 2), (1, -2)][i / 24], [39, 121][i % 2])
+        }) {
+            let mut run = run_of(&Memory::reset());
+            run[STATE - 1] = (choice + count as i64) & 1;
+            let (mut numbers, mut lags) = (vec![1, 0, 0, 0, 0, 0, 0, 0, 0], vec![40; 4]);
+            if bad(1) {
+                run[at] = x;
+            }
+            if bad(3) {
+                numbers[acf.0] = acf.1;
+            }
+            if bad(4) {
+                lags[count % 4] = lag;
+            }
+            let samples = vec![-32768; if bad(0) { samples } else { SAMPLES }];
+            let right = compare_step(library, &numbers, &lags, if bad(2) { scale } else { 4 }, Some(&samples), &memory_of(&run));
+            if right.refusal != first {
+                fail(&format!("the second program refuses with {} and not {first}", right.refusal));
+            }
+            count += 1;
+        }
+    }
+    count
+}
+
+/// Downlink steps from random states, with samples at the edge of the tone test, and runs that go from one direction to the other and back: how many
+/// steps, how many of the downlink, and how many of these found a tone.
+fn compare_downlink(library: &mut Library, r: &mut Random, kept: &[Vec<i64>]) -> [usize; 3] {
+    let mut count = [0; 3];
+    let mut tell = |samples: Option<&[i64]>, a: &Answer| {
+        count[0] += 1;
+        count[1] += samples.is_some() as usize;
+        count[2] += (samples.is_some() && a.refusal == 0 && a.next.tone == 1) as usize;
+    };
+    for _ in 0..40_000 {
+        let m = any_state(r);
+        let (acf, lags, scale) = any_frame(r);
+        let mut samples = any_samples(r, kept);
+        if r.one_in(20) {
+            samples.resize(r.from(0, 320) as usize, 0);
+        }
+        tell(Some(&samples), &compare_step(library, &acf, &lags, scale, Some(&samples), &m));
+    }
+    for _ in 0..2_000 {
+        let (acf, lags, scale) = any_frame(r);
+        for samples in edge_samples(r, kept) {
+            tell(Some(&samples), &compare_step(library, &acf, &lags, scale, Some(&samples), &Memory::reset()));
+        }
+    }
+    for _ in 0..200 {
+        let mut m = if r.one_in(2) { any_state(r) } else { Memory::reset() };
+        let (acf, lags, scale) = any_frame(r);
+        let mut samples = any_samples(r, kept);
+        // in half of the runs the direction stays, so that the flag is found and then read
+        let turn = [2, 20][r.next() as usize % 2];
+        let mut down = true;
+        for _ in 0..100 {
+            if r.one_in(10) {
+                samples = any_samples(r, kept);
+            }
+            down ^= r.one_in(turn);
+            let given = down.then_some(&samples[..]);
+            let answer = compare_step(library, &acf, &lags, scale, given, &m);
+            tell(given, &answer);
+            m = answer.next;
         }
     }
     count
@@ -478,10 +667,29 @@ fn compare_lengths(library: &mut Library) -> usize {
 
 /// The programs on a trace that comes in pieces, each held to the second program; `answers` are the right ones.
 fn held_programs(programs: &[String], what: &str, trace: &[u8], answers: &[u8], r: &mut Random) {
-    let mut of = |i: usize| written(&programs[i], trace, || r.from(1, 70000) as usize);
+    let mut of = |i: usize| written(&programs[i], &[], trace, || r.from(1, 70000) as usize);
     held(what, trace, &of(0), answers);
     held_totals(what, trace, &of(1), answers);
-    held_why(what, trace, &of(2), answers);
+    held_why(what, trace, None, &of(2), answers);
+}
+
+/// The programs of the downlink on a trace and its samples, from two files, or one of the two from standard input in pieces.
+fn held_downlink(programs: &[String], what: &str, trace: &[u8], samples: &[u8], answers: &[u8], r: &mut Random) {
+    let files = ["target/compare/downlink.trace", "target/compare/downlink.s16"];
+    for (path, bytes) in files.iter().zip([trace, samples]) {
+        std::fs::write(path, bytes).unwrap_or_else(|e| fail(&format!("{path}: {e}")));
+    }
+    let mut of = |program: &str| {
+        let (words, input) = match r.next() % 3 {
+            0 => (files, &[][..]),
+            1 => (["/dev/stdin", files[1]], trace),
+            _ => ([files[0], "/dev/stdin"], samples),
+        };
+        written(program, &words, input, || r.from(1, 70000) as usize)
+    };
+    held(what, trace, &of(&programs[3]), answers);
+    let flags: Vec<u8> = answers.chunks(5).flat_map(|a| [a[0], a[1], a[2], b'\n']).collect();
+    held_why(what, trace, Some(samples), &of(&programs[2]), &flags);
 }
 
 /// The totals, held to the second program's: they add up, and are those of the answers.
@@ -499,8 +707,8 @@ fn held_totals(what: &str, trace: &[u8], got: &[u8], answers: &[u8]) {
 }
 
 /// The explanations, held to the second program's: their flags are those of the answers.
-fn held_why(what: &str, trace: &[u8], got: &[u8], answers: &[u8]) {
-    let right = second::why(0, trace);
+fn held_why(what: &str, trace: &[u8], samples: Option<&[u8]>, got: &[u8], answers: &[u8]) {
+    let right = second::why(0, trace, samples);
     let answer = |line: &str| match line.split(' ').collect::<Vec<_>>()[..] {
         ["refused", number] => format!("{number}00\n"),
         [_, "energy", ..] => "011\n".to_string(),
@@ -523,22 +731,28 @@ fn held(what: &str, trace: &[u8], got: &[u8], right: &[u8]) {
     fail(&format!("{what}, line {}: {} and not {}\n{}", at + 1, show(got), show(right), show(trace)));
 }
 
+/// The traces of a folder, in the order of their names.
+fn traces_of(folder: &str) -> Vec<(std::path::PathBuf, Vec<u8>)> {
+    let mut names: Vec<_> = std::fs::read_dir(folder).expect("the folder of traces").map(|e| e.unwrap().path()).collect();
+    names.retain(|p| p.extension().map_or(false, |e| e == "trace"));
+    names.sort();
+    names.into_iter().map(|p| (p.clone(), std::fs::read(p).unwrap())).collect()
+}
+
 fn main() {
     let args: Vec<String> = std::env::args().collect();
-    if args.len() != 7 {
-        eprintln!("usage: harness RUN_TRACE NIGHT_TOTALS WHY_TRACE CALLS TRACES SEED");
+    if args.len() != 8 {
+        eprintln!("usage: harness RUN_TRACE NIGHT_TOTALS WHY_TRACE RUN_DOWNLINK CALLS TRACES SEED");
         exit(2);
     }
-    let programs = &args[1..4];
-    let seed: u64 = args[6].parse().expect("a number");
+    let programs = &args[1..5];
+    let folder = &args[6];
+    let seed: u64 = args[7].parse().expect("a number");
     let mut r = Random(seed | 1);
 
     // the traces of the repository: both programs, and the answers that are kept
     let (mut traces, mut lines) = (0, 0);
-    let mut names: Vec<_> = std::fs::read_dir(&args[5]).expect("the folder of traces").map(|e| e.unwrap().path()).collect();
-    names.sort();
-    for path in names.iter().filter(|p| p.extension().map_or(false, |e| e == "trace")) {
-        let trace = std::fs::read(path).unwrap();
+    for (path, trace) in traces_of(folder) {
         let kept = std::fs::read(path.with_extension("expected")).unwrap();
         let what = path.display().to_string();
         held(&format!("{what} (second program)"), &trace, &second::run(&trace), &kept);
@@ -547,6 +761,17 @@ fn main() {
         lines += kept.len() / 4;
     }
     println!("{traces} traces of {lines} lines, their totals and their explanations");
+    let (mut traces, mut kept_samples) = (0, Vec::new());
+    for (path, trace) in traces_of(&format!("{folder}/downlink")) {
+        let kept = std::fs::read(path.with_extension("expected")).unwrap();
+        let samples = std::fs::read(path.with_extension("s16")).unwrap();
+        let what = path.display().to_string();
+        held(&format!("{what} (second program)"), &trace, &second::run_downlink(&trace, &samples), &kept);
+        held_downlink(programs, &what, &trace, &samples, &kept, &mut r);
+        kept_samples.extend((0..kept.len() / 5).map(|frame| second::samples_of(&samples, frame)));
+        traces += 1;
+    }
+    println!("{traces} downlink traces of {} lines and their explanations", kept_samples.len());
 
     // random and damaged lines, in pieces; in half of the traces frames stay alike, so that the threshold adapts
     let mut random = 0;
@@ -559,14 +784,26 @@ fn main() {
         }
     }
     println!("{random} random and damaged lines, the totals of their traces and their explanations");
+    let (mut random, mut short) = (0, 0);
+    for n in [0, 1, 2, 3, 50, 1000, 3000] {
+        for new in [1, 20, 20] {
+            let trace = any_trace(&mut r, n, new);
+            let samples = any_samples_file(&mut r, &kept_samples, n, new);
+            let right = second::run_downlink(&trace, &samples);
+            held_downlink(programs, "random downlink lines", &trace, &samples, &right, &mut r);
+            random += right.len() / 5;
+            short += right.chunks(5).filter(|a| a[0] == b'8').count();
+        }
+    }
+    println!("{random} random and damaged downlink lines and their explanations, {short} of them with too few samples");
 
     // random valid states and frames, one step each, and runs of them
-    let library = &mut Library { program: &args[4], waiting: Vec::new() };
+    let library = &mut Library { program: &args[5], waiting: Vec::new() };
     let mut steps = 0;
     for _ in 0..400_000 {
         let m = any_state(&mut r);
         let (acf, lags, scale) = any_frame(&mut r);
-        compare_step(library, &acf, &lags, scale, &m);
+        compare_step(library, &acf, &lags, scale, None, &m);
         steps += 1;
     }
     for _ in 0..2_000 {
@@ -578,14 +815,20 @@ fn main() {
             if !quiet && r.one_in(10) {
                 acf = any_frame(&mut r).0;
             }
-            m = compare_step(library, &acf, &lags, scale, &m).next;
+            m = compare_step(library, &acf, &lags, scale, None, &m).next;
             steps += 1;
         }
     }
     library.make();
     println!("{steps} steps from random states");
+    let [steps, downlink, tones] = compare_downlink(library, &mut r, &kept_samples);
+    library.make();
+    println!("{steps} more in both directions, {downlink} of the downlink, {tones} of which found a tone");
+    let order = compare_order(library);
+    library.make();
+    println!("{order} downlink steps with every choice of faults");
 
-    let [changed, refused] = compare_changed(library, &mut r);
+    let [changed, refused] = compare_changed(library, &mut r, &kept_samples);
     library.make();
     println!("{changed} steps from changed states, {refused} of them refused as not valid");
     let lengths = compare_lengths(library);

@@ -1,7 +1,10 @@
-//! A second implementation of the uplink voice activity detector, to compare the first one with. It shares no code with it: it is written from
-//! GSM 06.32, clause 6 (the clause numbers stand beside each part), and document 01 as request 4 mends it, in plain Rust, with every number an i64.
+//! A second implementation of the voice activity detector, to compare the first one with. It shares no code with it: it is written from GSM 06.32,
+//! clause 6 (the clause numbers stand beside each part), and document 01 as requests 4 and 5 mend it, in plain Rust, with every number an i64.
 
 pub const LINE: usize = 82;
+
+/// The samples of a frame, which only the downlink is given.
+pub const SAMPLES: usize = 160;
 
 /// The most lines that the totals count, and the most frames that are numbered.
 const MOST: u64 = 0xFFFF_FFFF;
@@ -24,6 +27,7 @@ pub struct Memory {
     pub oldlagcount: i64,
     pub veryoldlagcount: i64,
     pub oldlag: i64,
+    pub tone: i64,
 }
 
 /// The way of a frame through 6.6: where it leaves the clause. Waiting has adaptcount as it has risen.
@@ -32,6 +36,7 @@ pub enum Way {
     Floor,
     Periodic,
     Unsteady,
+    Tone,
     Waiting(i64),
     Adapted,
 }
@@ -70,6 +75,9 @@ fn l_sub(a: i64, b: i64) -> i64 {
 }
 fn l_mult(a: i64, b: i64) -> i64 {
     sat32(2 * a * b)
+}
+fn mult(a: i64, b: i64) -> i64 {
+    sat16((a * b) >> 15)
 }
 fn mult_r(a: i64, b: i64) -> i64 {
     sat16((a * b + 16384) >> 15)
@@ -136,6 +144,7 @@ impl Memory {
             oldlagcount: 0,
             veryoldlagcount: 0,
             oldlag: 40,
+            tone: 0,
         }
     }
 
@@ -159,6 +168,7 @@ impl Memory {
             && (0..=4).contains(&self.oldlagcount)
             && (0..=4).contains(&self.veryoldlagcount)
             && (40..=120).contains(&self.oldlag)
+            && (0..=1).contains(&self.tone)
     }
 }
 
@@ -179,10 +189,22 @@ fn refused(refusal: i64, memory: &Memory) -> Answer {
     Answer { refusal, vad: 0, vvad: 0, acf0: (0, 0), pvad: (0, 0), way: None, next: memory.clone() }
 }
 
-/// One frame.
+/// One frame of the uplink.
 pub fn step(acf: &[i64], lags: &[i64], scal: i64, memory: &Memory) -> Answer {
+    either(acf, lags, scal, None, memory)
+}
+
+/// One frame of the downlink, with its samples.
+pub fn downlink(acf: &[i64], lags: &[i64], scal: i64, samples: &[i64], memory: &Memory) -> Answer {
+    either(acf, lags, scal, Some(samples), memory)
+}
+
+/// One frame of either direction: the uplink has no samples.
+fn either(acf: &[i64], lags: &[i64], scal: i64, samples: Option<&[i64]>, memory: &Memory) -> Answer {
     let refusal = if acf.len() != 9 || lags.len() != 4 {
         1
+    } else if samples.map_or(false, |sof| sof.len() != SAMPLES) {
+        8
     } else if !memory.valid() {
         5
     } else {
@@ -240,13 +262,20 @@ pub fn step(acf: &[i64], lags: &[i64], scal: i64, memory: &Memory) -> Answer {
     // 6.5
     let ptch = s.oldlagcount + s.veryoldlagcount >= 4;
 
-    // 6.6
+    // 6.6, with the flag of the frame before, which the uplink does not have
+    let tone_before = samples.is_some() && s.tone == 1;
     let way = if acf0 < (19, 18750) {
         (s.e_thvad, s.m_thvad) = (20, 25000);
         Way::Floor
-    } else if ptch || !stat {
+    } else if ptch || !stat || tone_before {
         s.adaptcount = 0;
-        if ptch { Way::Periodic } else { Way::Unsteady }
+        if ptch {
+            Way::Periodic
+        } else if !stat {
+            Way::Unsteady
+        } else {
+            Way::Tone
+        }
     } else {
         s.adaptcount += 1;
         if s.adaptcount > 8 {
@@ -287,6 +316,9 @@ pub fn step(acf: &[i64], lags: &[i64], scal: i64, memory: &Memory) -> Answer {
     s.veryoldlagcount = s.oldlagcount;
     s.oldlagcount = count;
 
+    // 6.10
+    s.tone = samples.map_or(0, |sof| tone(sof) as i64);
+
     Answer { refusal: 0, vad: vad as i64, vvad: vvad as i64, acf0, pvad, way: Some(way), next: s }
 }
 
@@ -307,40 +339,40 @@ fn averages(acf: &[i64], scal: i64, s: &mut Memory) -> ([i64; 9], [i64; 9]) {
     (av0, av1)
 }
 
-/// 6.3.1: the reflection coefficients, vpar[1..8].
-fn schur(av1: &[i64; 9]) -> [i64; 9] {
-    let mut vpar = [0; 9];
-    if av1[0] == 0 {
-        return vpar;
+/// 6.3.1 and 6.10.3: the reflection coefficients, from 1 on, one fewer than the autocorrelations.
+fn schur<const N: usize>(l_acf: &[i64; N]) -> [i64; N] {
+    let mut rc = [0; N];
+    if l_acf[0] == 0 {
+        return rc;
     }
-    let temp = norm(av1[0]);
-    let mut p = [0i64; 9];
-    let mut k = [0i64; 9];
-    for i in 0..9 {
-        p[i] = shr(shl(av1[i], temp), 16);
+    let temp = norm(l_acf[0]);
+    let mut p = [0i64; N];
+    let mut k = [0i64; N];
+    for i in 0..N {
+        p[i] = shr(shl(l_acf[i], temp), 16);
     }
-    for i in 1..8 {
-        k[9 - i] = p[i];
+    for i in 1..N - 1 {
+        k[N - i] = p[i];
     }
-    for n in 1..9 {
+    for n in 1..N {
         if p[0] < abs(p[1]) {
-            return vpar;
+            return rc;
         }
-        vpar[n] = div(abs(p[1]), p[0]);
+        rc[n] = div(abs(p[1]), p[0]);
         if p[1] > 0 {
-            vpar[n] = sub(0, vpar[n]);
+            rc[n] = sub(0, rc[n]);
         }
-        if n == 8 {
-            return vpar;
+        if n == N - 1 {
+            return rc;
         }
-        p[0] = add(p[0], mult_r(p[1], vpar[n]));
-        for m in 1..9 - n {
-            let (x, y) = (p[m + 1], k[9 - m]);
-            p[m] = add(x, mult_r(y, vpar[n]));
-            k[9 - m] = add(y, mult_r(x, vpar[n]));
+        p[0] = add(p[0], mult_r(p[1], rc[n]));
+        for m in 1..N - n {
+            let (x, y) = (p[m + 1], k[N - m]);
+            p[m] = add(x, mult_r(y, rc[n]));
+            k[N - m] = add(y, mult_r(x, rc[n]));
         }
     }
-    vpar
+    rc
 }
 
 /// 6.3.2: aav1[0..8].
@@ -415,6 +447,78 @@ fn adapt(thvad: (i64, i64), pvad: (i64, i64)) -> (i64, i64) {
     (e, m).min(cap)
 }
 
+/// Table 3.2: the first half of the window; the second is the same, from its end.
+const HANN: [i64; 80] = [
+    0, 12, 51, 114, 204, 318, 458, 622, 811, 1025,
+    1262, 1523, 1807, 2114, 2444, 2795, 3167, 3560, 3972, 4405,
+    4856, 5325, 5811, 6314, 6832, 7365, 7913, 8473, 9046, 9631,
+    10226, 10831, 11444, 12065, 12693, 13326, 13964, 14607, 15251, 15898,
+    16545, 17192, 17838, 18482, 19122, 19758, 20389, 21014, 21631, 22240,
+    22840, 23430, 24009, 24575, 25130, 25670, 26196, 26707, 27201, 27679,
+    28139, 28581, 29003, 29406, 29789, 30151, 30491, 30809, 31105, 31377,
+    31626, 31852, 32053, 32230, 32382, 32509, 32611, 32688, 32739, 32764,
+];
+
+/// 6.10: whether the samples of a frame are a tone.
+pub fn tone(sof: &[i64]) -> bool {
+    let rc = reflected(sof);
+    pole(&rc) && sub(prederr(&rc), 1464) < 0
+}
+
+/// 6.10.1 to 6.10.3: the reflection coefficients of the samples.
+fn reflected(sof: &[i64]) -> [i64; 5] {
+    // 6.10.1
+    let mut sofh = [0i64; SAMPLES];
+    for i in 0..80 {
+        sofh[i] = mult_r(sof[i], HANN[i]);
+        sofh[159 - i] = mult_r(sof[159 - i], HANN[i]);
+    }
+
+    // 6.10.2: a positive scalauto makes the samples smaller
+    let smax = sofh.iter().map(|x| abs(*x)).fold(0, i64::max);
+    let scalauto = if smax == 0 { 0 } else { sub(4, norm(smax << 16)) };
+    if scalauto > 0 {
+        let temp = 16384 >> (scalauto - 1);
+        for x in &mut sofh {
+            *x = mult_r(*x, temp);
+        }
+    }
+    let mut l_acfh = [0i64; 5];
+    for k in 0..5 {
+        for i in k..SAMPLES {
+            l_acfh[k] = l_add(l_acfh[k], l_mult(sofh[i], sofh[i - k]));
+        }
+    }
+
+    // 6.10.3
+    schur(&l_acfh)
+}
+
+/// 6.10.4 and 6.10.5: whether the pole is complex, and not below 385 Hz.
+fn pole(rc: &[i64; 5]) -> bool {
+    let temp = shr(rc[1], 2);
+    let a1 = add(temp, mult_r(rc[2], temp));
+    let a2 = shr(rc[2], 2);
+    let l_den = l_mult(a1, a1);
+    let l_num = l_sub(shl(a2, 16), l_den);
+    if l_num <= 0 {
+        return false;
+    }
+    if a1 < 0 && l_sub(l_num, l_mult(shr(l_den, 16), 3189)) < 0 {
+        return false;
+    }
+    true
+}
+
+/// 6.10.6: the prediction error.
+fn prederr(rc: &[i64; 5]) -> i64 {
+    let mut prederr = 32767;
+    for i in 1..5 {
+        prederr = mult(prederr, sub(32767, mult(rc[i], rc[i])));
+    }
+    prederr
+}
+
 // ---- trace lines
 
 /// A line with its line feed: the frame, or refusal 6, 2, 3 or 4.
@@ -437,12 +541,18 @@ pub fn decode(line: &[u8]) -> Result<(Vec<i64>, Vec<i64>, i64), i64> {
     }
 }
 
-/// Hands on the answer to each line of a trace.
-fn answers(trace: &[u8], mut hand: impl FnMut(&Answer)) {
+/// The samples of a frame, as many as are there: two bytes each, the low one first. The frames are counted from 0.
+pub fn samples_of(samples: &[u8], frame: usize) -> Vec<i64> {
+    let bytes = samples.chunks(2 * SAMPLES).nth(frame).unwrap_or(&[]);
+    bytes.chunks_exact(2).map(|b| i16::from_le_bytes([b[0], b[1]]) as i64).collect()
+}
+
+/// Hands on the answer to each line of a trace: of the uplink, or with samples of the downlink, where a refused line has its samples too.
+fn answers(trace: &[u8], samples: Option<&[u8]>, mut hand: impl FnMut(&Answer)) {
     let mut memory = Memory::reset();
-    for line in trace.split_inclusive(|b| *b == b'\n') {
+    for (frame, line) in trace.split_inclusive(|b| *b == b'\n').enumerate() {
         let answer = match decode(line) {
-            Ok((acf, lags, scal)) => step(&acf, &lags, scal, &memory),
+            Ok((acf, lags, scal)) => either(&acf, &lags, scal, samples.map(|s| samples_of(s, frame)).as_deref(), &memory),
             Err(n) => refused(n, &memory),
         };
         hand(&answer);
@@ -450,10 +560,17 @@ fn answers(trace: &[u8], mut hand: impl FnMut(&Answer)) {
     }
 }
 
-/// The answers to a whole trace.
+/// The answers to a whole trace of the uplink.
 pub fn run(trace: &[u8]) -> Vec<u8> {
     let mut out = Vec::with_capacity(trace.len() / LINE * 4 + 4);
-    answers(trace, |a| out.extend([48 + a.refusal as u8, 48 + a.vad as u8, 48 + a.vvad as u8, b'\n']));
+    answers(trace, None, |a| out.extend([48 + a.refusal as u8, 48 + a.vad as u8, 48 + a.vvad as u8, b'\n']));
+    out
+}
+
+/// The answers to a whole trace of the downlink, each with the flag that is kept for the next frame.
+pub fn run_downlink(trace: &[u8], samples: &[u8]) -> Vec<u8> {
+    let mut out = Vec::with_capacity(trace.len() / LINE * 5 + 5);
+    answers(trace, Some(samples), |a| out.extend([48 + a.refusal as u8, 48 + a.vad as u8, 48 + a.vvad as u8, 48 + a.next.tone as u8, b'\n']));
     out
 }
 
@@ -466,7 +583,7 @@ pub type Totals = [u64; 5];
 pub fn totals(so_far: Totals, trace: &[u8]) -> (i64, Totals) {
     let [mut accepted, mut speech, mut held, mut quiet, mut refused] = so_far;
     let mut number = 0;
-    answers(trace, |a| {
+    answers(trace, None, |a| {
         if number == 7 || accepted + refused >= MOST {
             number = 7;
             return;
@@ -502,6 +619,7 @@ impl std::fmt::Display for Way {
             Way::Floor => f.write_str("floor"),
             Way::Periodic => f.write_str("periodic"),
             Way::Unsteady => f.write_str("unsteady"),
+            Way::Tone => f.write_str("tone"),
             Way::Waiting(count) => write!(f, "waiting {count}"),
             Way::Adapted => f.write_str("adapted"),
         }
@@ -513,12 +631,12 @@ fn burst_end(raw: &[bool]) -> u64 {
     (3..=raw.len()).rev().find(|end| raw[end - 3..*end] == [true; 3]).expect("a burst before its hangover") as u64
 }
 
-/// Why each frame of a trace was sent or not, and its way, a line for each line; `so_far` frames were accepted before. Past the limit the state still
-/// changes, which shows in nothing: no frame is explained there.
-pub fn why(so_far: u64, trace: &[u8]) -> Vec<u8> {
+/// Why each frame of a trace was sent or not, and its way, a line for each line; `so_far` frames were accepted before. The trace is of the uplink, or
+/// with samples of the downlink. Past the limit the state still changes, which shows in nothing: no frame is explained there.
+pub fn why(so_far: u64, trace: &[u8], samples: Option<&[u8]>) -> Vec<u8> {
     let mut out = String::new();
     let mut raw = Vec::new();
-    answers(trace, |a| {
+    answers(trace, samples, |a| {
         let text = match &a.way {
             None => format!("refused {}\n", a.refusal),
             Some(_) if so_far + raw.len() as u64 >= MOST => "refused 7\n".to_string(),

@@ -1,8 +1,10 @@
 //! The second program: traces from the files that are named, or one from standard input, to the answers on standard output.
 //!
 //!     second [FILE..]                             the answers
+//!     second downlink FILE SAMPLES                those of a downlink trace, whose frames have 320 bytes of the file SAMPLES each
 //!     second totals [--after DIGITS] [FILE..]     for each file the line of its totals, after those that 40 digits write
 //!     second why [--after NUMBER] [FILE..]        for each line why its frame was sent or not, after so many accepted frames
+//!     second why [--after NUMBER] --samples SAMPLES [FILE..]    the same on the downlink
 #[allow(dead_code)]
 #[path = "second.rs"]
 mod second;
@@ -17,8 +19,16 @@ fn main() {
     let (command, after, files) = match &words[..] {
         [command @ ("totals" | "why"), "--after", after, files @ ..] => (*command, *after, files),
         [command @ ("totals" | "why"), files @ ..] => (*command, nothing.as_str(), files),
+        ["downlink", files @ ..] => ("downlink", "", files),
         files => ("run", "", files),
     };
+    let (samples, files) = match (command, files) {
+        ("why", ["--samples", samples, files @ ..]) => (Some(samples), files),
+        ("downlink", [trace, samples]) => (Some(samples), std::slice::from_ref(trace)),
+        ("downlink", _) => panic!("a trace and its samples"),
+        _ => (None, files),
+    };
+    let samples = samples.map(|path| std::fs::read(path).expect("the samples"));
     let mut traces: Vec<(&str, Vec<u8>)> = files.iter().map(|path| (*path, std::fs::read(path).expect("the trace"))).collect();
     if traces.is_empty() {
         let mut trace = Vec::new();
@@ -32,7 +42,8 @@ fn main() {
                 let (refusal, totals) = second::totals(so_far, &trace);
                 (refusal, second::report(totals))
             }
-            "why" => (0, second::why(after.parse().expect("a number"), &trace)),
+            "why" => (0, second::why(after.parse().expect("a number"), &trace, samples.as_deref())),
+            "downlink" => (0, second::run_downlink(&trace, samples.as_deref().expect("the samples"))),
             _ => (0, second::run(&trace)),
         };
         std::io::stdout().write_all(&text).expect("the answers");

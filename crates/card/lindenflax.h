@@ -1,5 +1,5 @@
 /*
- * The voice activity detector of GSM 06.32 (uplink), one frame at a time, and the lines of a trace.
+ * The voice activity detector of GSM 06.32, one frame at a time, on the uplink and on the downlink, and the lines of a trace.
  *
  * Each channel has one state of its own. The library keeps nothing between calls and allocates nothing: calls on different states may run at the same time.
  *
@@ -30,13 +30,14 @@ extern "C" {
 /* How many numbers each lent buffer has. */
 #define LINDENFLAX_ACF 9
 #define LINDENFLAX_LAGS 4
-#define LINDENFLAX_STATE 84
+#define LINDENFLAX_SAMPLES 160
+#define LINDENFLAX_STATE 85
 #define LINDENFLAX_ANSWER 6
 #define LINDENFLAX_SCALE 1
 #define LINDENFLAX_LINE 82
 
 /*
- * The state, 84 numbers. A frame is refused (5) where a number does not fit its field, or the state is not valid. What lindenflax_reset or an
+ * The state, 85 numbers. A frame is refused (5) where a number does not fit its field, or the state is not valid. What lindenflax_reset or an
  * accepted frame left is valid.
  *
  *   index   name                  the field holds     valid
@@ -56,6 +57,7 @@ extern "C" {
  *   81      oldlagcount           -32768..32767       0..4
  *   82      veryoldlagcount       -32768..32767       0..4
  *   83      oldlag                0..65535            40..120
+ *   84      tone                  0..1                0 or 1: a tone was found in the frame before, on the downlink
  */
 
 /*
@@ -88,17 +90,27 @@ extern "C" {
 #define LINDENFLAX_BAD_LAG 4     /* a lag is outside 40..120 */
 #define LINDENFLAX_BAD_STATE 5   /* the state is not valid */
 #define LINDENFLAX_BAD_LINE 6    /* a line is not 81 digits and a line feed */
+#define LINDENFLAX_BAD_SAMPLES 8 /* other than 160 samples */
 
-/* Writes the state after a reset: 0, or 1 where state_len is not 84. */
+/* Writes the state after a reset: 0, or 1 where state_len is not 85. */
 uint8_t lindenflax_reset(int32_t *state, size_t state_len);
 
 /*
- * One frame: the nine autocorrelations of GSM 06.10's encoder (L_ACF), its four lags (Nc), and its scale (scalauto, or 0 where that is
+ * One frame on the uplink: the nine autocorrelations of GSM 06.10's encoder (L_ACF), its four lags (Nc), and its scale (scalauto, or 0 where that is
  * negative). acf[0] is not negative and no other is larger in magnitude; a lag is 40..120; the scale is 0..4. The state becomes the next state, and
- * the answer is written. The checks are made in the order 1, 5, 2, 3, 4. The buffers must not overlap.
+ * the answer is written. The tone flag of the state is not read, and an accepted frame leaves it 0. The checks are made in the order 1, 5, 2, 3, 4.
+ * The buffers must not overlap.
  */
 uint8_t lindenflax_step(const int32_t *acf, size_t acf_len, const uint16_t *lags, size_t lags_len, int16_t scale, int32_t *state,
                         size_t state_len, int32_t *answer, size_t answer_len);
+
+/*
+ * One frame on the downlink: the same, and the 160 offset-compensated samples of the frame as GSM 06.10's encoder hands them over (sof of clause 6.10).
+ * An accepted frame leaves the tone flag 1 where a tone is found in its samples, and 0 where none is; the flag acts in the next frame, and not in this
+ * one. The checks are made in the order 1, 8, 5, 2, 3, 4. The buffers must not overlap.
+ */
+uint8_t lindenflax_downlink(const int32_t *acf, size_t acf_len, const uint16_t *lags, size_t lags_len, int16_t scale, const int16_t *samples,
+                            size_t samples_len, int32_t *state, size_t state_len, int32_t *answer, size_t answer_len);
 
 /*
  * Reads a line: writes its nine autocorrelations, its four lags, and its scale into a buffer of one number. The checks are made in the order

@@ -6,6 +6,10 @@ extern "C" {
         acf: *const i32, acf_len: usize, lags: *const u16, lags_len: usize, scale: i16,
         state: *mut i32, state_len: usize, answer: *mut i32, answer_len: usize,
     ) -> u8;
+    pub fn lindenflax_downlink(
+        acf: *const i32, acf_len: usize, lags: *const u16, lags_len: usize, scale: i16, samples: *const i16, samples_len: usize,
+        state: *mut i32, state_len: usize, answer: *mut i32, answer_len: usize,
+    ) -> u8;
     pub fn lindenflax_read_line(
         line: *const u8, line_len: usize, acf: *mut i32, acf_len: usize, lags: *mut u16, lags_len: usize,
         scale: *mut i16, scale_len: usize,

@@ -50,11 +50,22 @@ fn lags(before: i64) {
     }
 }
 
+/// 6.10 of one frame of each tone from 100 to 3900 Hz, 8000 sin(2π·f·i/8000), rounded: f, the prediction error, whether the pole test is passed, the flag.
+fn sweep() {
+    for f in (100..=3900).step_by(10) {
+        let sample = |i: usize| (8000.0 * (2.0 * std::f64::consts::PI * (f * i) as f64 / 8000.0).sin()).round() as i64;
+        let sof: Vec<i64> = (0..SAMPLES).map(sample).collect();
+        let rc = reflected(&sof);
+        println!("{f} {} {} {}", prederr(&rc), pole(&rc) as u8, tone(&sof) as u8);
+    }
+}
+
 fn main() {
     let words: Vec<String> = std::env::args().collect();
     match words[1].as_str() {
         "frames" => frames(&words[2]),
         "shifts" => shifts(),
+        "sweep" => sweep(),
         "lags" => lags(words[2].parse().expect("a lag")),
         word => panic!("what is {word}?"),
     }

@@ -55,7 +55,7 @@ short-at first count l h t i k =
     let e = part-length first count l h in
     rw (sym (part-at first count l h i k)) (short-fits (at (part first count l) i) (all-at Short (part first count l) i (pos 0) t (omega arith)))
 
-module _ (l : List ℤ) (n : length l ≡ 84) (t : narrowOf l ≡ true) where
+module _ (l : List ℤ) (n : length l ≡ 85) (t : narrowOf l ≡ true) where
   abbrev counts : Bool
   counts = shortsOf (part 76 7 l)
 
@@ -68,17 +68,22 @@ module _ (l : List ℤ) (n : length l ≡ 84) (t : narrowOf l ≡ true) where
   abbrev lag : Bool
   lag = within (pos 0) (pos 65535) (at l 83)
 
-  tests : (shortsOf (part 0 10 l) ≡ true) × (counts ≡ true) × (sacf-pointer ≡ true) × (sav0-pointer ≡ true) × (lag ≡ true)
+  abbrev flag : Bool
+  flag = within (pos 0) (pos 1) (at l 84)
+
+  tests : (shortsOf (part 0 10 l) ≡ true) × (counts ≡ true) × (sacf-pointer ≡ true) × (sav0-pointer ≡ true) × (lag ≡ true) × (flag ≡ true)
   unfolding narrowOf
   tests =
-      let a = and-right (shortsOf (part 0 10 l)) (counts && (sacf-pointer && (sav0-pointer && lag))) t in
-      let b = and-right counts (sacf-pointer && (sav0-pointer && lag)) a in
-      let d = and-right sacf-pointer (sav0-pointer && lag) b in (
-        and-left (shortsOf (part 0 10 l)) (counts && (sacf-pointer && (sav0-pointer && lag))) t,
-        and-left counts (sacf-pointer && (sav0-pointer && lag)) a,
-        and-left sacf-pointer (sav0-pointer && lag) b,
-        and-left sav0-pointer lag d,
-        and-right sav0-pointer lag d,
+      let a = and-right (shortsOf (part 0 10 l)) (counts && (sacf-pointer && (sav0-pointer && (lag && flag)))) t in
+      let b = and-right counts (sacf-pointer && (sav0-pointer && (lag && flag))) a in
+      let d = and-right sacf-pointer (sav0-pointer && (lag && flag)) b in
+      let e = and-right sav0-pointer (lag && flag) d in (
+        and-left (shortsOf (part 0 10 l)) (counts && (sacf-pointer && (sav0-pointer && (lag && flag)))) t,
+        and-left counts (sacf-pointer && (sav0-pointer && (lag && flag))) a,
+        and-left sacf-pointer (sav0-pointer && (lag && flag)) b,
+        and-left sav0-pointer (lag && flag) d,
+        and-left lag flag e,
+        and-right lag flag e,
       )
 
   -- 0..9 and 76..82 are of 16 bits
@@ -88,7 +93,7 @@ module _ (l : List ℤ) (n : length l ≡ 84) (t : narrowOf l ≡ true) where
   pub count-fits : (i : ℕ) → i < 7 → SFits w16 (at l (76 + i))
   count-fits i k = short-at 76 7 l (omega arith) (tests .1) i k
 
-  -- the pointers, and the last lag
+  -- the pointers, the last lag, and the tone
   pub sacf-within : Between (pos 0) (pos 27) (at l 37)
   sacf-within = between (pos 0) (pos 27) (at l 37) (tests .2)
 
@@ -97,3 +102,6 @@ module _ (l : List ℤ) (n : length l ≡ 84) (t : narrowOf l ≡ true) where
 
   pub lag-within : Between (pos 0) (pos 65535) (at l 83)
   lag-within = between (pos 0) (pos 65535) (at l 83) (tests .4)
+
+  pub flag-within : Between (pos 0) (pos 1) (at l 84)
+  flag-within = between (pos 0) (pos 1) (at l 84) (tests .5)

@@ -1,12 +1,10 @@
 -- The run that a reset or an accepted frame leaves is never refused by itself: its numbers fit, and the state in it is valid. What the type of
 -- the filter says by itself is that its entries are of 16 bits. Assumes nothing.
-use mathlib.Core.Path.{_≡_, refl, sym, ap, _∙_}
-use mathlib.Core.Bool.{Bool, true, _&&_}
+use mathlib.Core.Path.{_≡_, refl, ap, _∙_}
+use mathlib.Core.Bool.{Bool, true, false}
 use mathlib.Core.List.{List}
 use Prim.Native.Nat.{ℕ}
 use native.Mathlib.Omega.{arith}
-use lib.Dec.{eqb}
-use borrow.Author.Tests.{eqb-true}
 use lib.IntN.{ℤ, pos, negℤ}
 use lib.ListN.{length}
 use lib.Signed.{_≤ℤ_}
@@ -14,20 +12,20 @@ use mir.Syntax.{w16}
 use mir.Val.{SFits}
 use Rattle.numbers.specs.Sum.{at}
 use Rattle.numbers.proofs.Parts.{zarith, of}
-use Rattle.rows.specs.Choice.{within}
+use Rattle.rows.specs.Choice.{IF_THEN_ELSE_, eqZ, within}
 use Rattle.rows.specs.Rows.{row, all}
-use Rattle.rows.proofs.Choice.{either, both, and-left, and-right}
+use Rattle.rows.proofs.Choice.{both}
 use Rattle.state.specs.declared.State.{State}
 use Rattle.state.specs.Valid.{validOf, resetOf, Between, Valid, Shaped}
 use Rattle.state.proofs.Facts.{valid, between-back}
-use Rattle.detector.specs.Refusal.{refusalOf}
-use Rattle.detector.specs.Step.{stepOf}
+use Rattle.detector.specs.Refusal.{Direction, samplesOk, refusalOf}
+use Rattle.detector.specs.Step.{answerFor}
 use Rattle.detector.proofs.Table.{number-0, accepted-0}
 use Rattle.detector.proofs.Keeps.{Numbers, step-keeps}
-use Rattle.card.specs.Run.{part, runOf, stateOf, shortsOf, narrowOf, lengthsOf, stepNumber, stepRun}
+use Rattle.card.specs.Run.{bitOf, flagOf, part, runOf, stateOf, shortsOf, narrowOf, stepNumber, stepRun}
 use Rattle.card.proofs.Parted.{spread, part-length}
-use Rattle.card.proofs.Lossless.{sacf-pointer-back, sav0-pointer-back, oldlag-back, state-run}
-use Rattle.card.proofs.Answers.{number-1, number-5, number-of, done-run}
+use Rattle.card.proofs.Lossless.{sacf-pointer-back, sav0-pointer-back, oldlag-back, tone-back, state-run}
+use Rattle.card.proofs.Answers.{readable, none-lent, none-given, done-run}
 
 abbrev Short : ℤ → Bool
 Short = within (negℤ (pos 32768)) (pos 32767)
@@ -38,6 +36,12 @@ short z f = between-back (negℤ (pos 32768)) (pos 32767) z (record { from = ome
 
 inner : (lo hi z : ℤ) → negℤ (pos 32768) ≤ℤ lo → hi ≤ℤ pos 32767 → Between lo hi z → Short z ≡ true
 inner lo hi z l h b = between-back (negℤ (pos 32768)) (pos 32767) z (record { from = omega (zarith, l, b .from); to = omega (zarith, h, b .to) })
+
+-- the number of a flag
+bit-narrow : (b : Bool) → within (pos 0) (pos 1) (bitOf b) ≡ true
+unfolding within bitOf IF_THEN_ELSE_
+bit-narrow true = refl
+bit-narrow false = refl
 
 -- the run of a valid state
 module _ (s : State) (shape : Shaped s) (v : Valid s) (filter : (k : ℕ) → SFits w16 (at (s .rvad) k)) where
@@ -71,43 +75,29 @@ module _ (s : State) (shape : Shaped s) (v : Valid s) (filter : (k : ℕ) → SF
   pub run-narrow : narrowOf (runOf s) ≡ true
   unfolding narrowOf
   run-narrow =
-      rw (sacf-pointer-back s shape, sav0-pointer-back s shape, oldlag-back s shape)
+      rw (sacf-pointer-back s shape, sav0-pointer-back s shape, oldlag-back s shape, tone-back s shape)
       (both front-short
       (both counts-short
       (both (between-back (pos 0) (pos 27) (pos (s .ptsacf)) (record { from = omega zarith; to = omega (zarith, v .ptsacf-last) }))
       (both (between-back (pos 0) (pos 27) (pos (s .ptsav0)) (record { from = omega zarith; to = omega (zarith, v .ptsav0-last) }))
-      (between-back (pos 0) (pos 65535) (pos (s .oldlag)) (record { from = omega zarith; to = omega (zarith, v .oldlag .1) }))))))
+      (both (between-back (pos 0) (pos 65535) (pos (s .oldlag)) (record { from = omega zarith; to = omega (zarith, v .oldlag .1) })) (bit-narrow (s .tone)))))))
 
 -- ---- after a reset
 pub reset-state : stateOf (runOf resetOf) ≡ resetOf
-unfolding stateOf runOf part resetOf row
+unfolding stateOf runOf bitOf flagOf IF_THEN_ELSE_ eqZ part resetOf row
 reset-state = refl
 
 pub reset-narrow : narrowOf (runOf resetOf) ≡ true
-unfolding narrowOf shortsOf all within runOf part resetOf row
+unfolding narrowOf shortsOf all within runOf bitOf IF_THEN_ELSE_ part resetOf row
 reset-narrow = refl
 
 -- ---- after an accepted frame
-module _ (acf : List ℤ) (lags : List ℕ) (scale : ℤ) (run answer : List ℤ) (none : stepNumber acf lags scale run answer ≡ 0) where
-  lengths-right : lengthsOf acf lags run answer ≡ true
-  lengths-right =
-      either (lengthsOf acf lags run answer ≡ true) (lengthsOf acf lags run answer) (λ t. t)
-      (λ t. absurd (let e = sym (number-1 acf lags scale run answer t) ∙ none in omega arith))
+module _ (d : Direction) (acf : List ℤ) (lags : List ℕ) (scale : ℤ) (run answer : List ℤ) (none : stepNumber d acf lags scale run answer ≡ 0) where
+  accepted : refusalOf (samplesOk d) acf lags scale (stateOf run) ≡ 0
+  accepted = accepted-0 d acf lags scale (stateOf run) (none-given d acf lags scale run answer none)
 
-  run-fits : narrowOf run ≡ true
-  run-fits =
-      either (narrowOf run ≡ true) (narrowOf run) (λ t. t)
-      (λ t. absurd (let e = sym (number-5 acf lags scale run answer lengths-right t) ∙ none in omega arith))
-
-  accepted : refusalOf acf lags scale (stateOf run) ≡ 0
-  accepted = accepted-0 acf lags scale (stateOf run) (sym (number-of acf lags scale run answer lengths-right run-fits) ∙ none)
-
-  run-long : length run ≡ 84
-  unfolding lengthsOf
-  run-long =
-      let a = eqb (length run) 84 && eqb (length answer) 6 in
-      let b = eqb (length lags) 4 && a in
-      eqb-true (length run) 84 (and-left (eqb (length run) 84) (eqb (length answer) 6) (and-right (eqb (length lags) 4) a (and-right (eqb (length acf) 9) b lengths-right)))
+  run-long : length run ≡ 85
+  run-long = readable d acf lags scale run answer (none-lent d acf lags scale run answer none) .0
 
   shape : Shaped (stateOf run)
   unfolding stateOf
@@ -119,19 +109,19 @@ module _ (acf : List ℤ) (lags : List ℕ) (scale : ℤ) (run answer : List ℤ
       }
 
   abbrev next : State
-  next = stepOf acf lags scale (stateOf run) .next
+  next = answerFor d acf lags scale (stateOf run) .next
 
   module _ (fits : Numbers acf) where
     good : (validOf next ≡ true) × Shaped next
-    good = step-keeps acf lags scale (stateOf run) fits shape (number-0 acf lags scale (stateOf run) .0 accepted .1)
+    good = step-keeps acf lags scale (stateOf run) fits shape d (number-0 (samplesOk d) acf lags scale (stateOf run) .0 accepted .2)
 
     -- the next frame finds the state that this one left
-    pub state-left : stateOf (stepRun acf lags scale run answer) ≡ next
-    state-left = ap stateOf (done-run acf lags scale run answer none) ∙ state-run next (good .1)
+    pub state-left : stateOf (stepRun d acf lags scale run answer) ≡ next
+    state-left = ap stateOf (done-run d acf lags scale run answer none) ∙ state-run next (good .1)
 
     -- and it is valid, in numbers that fit
-    pub left-valid : validOf (stateOf (stepRun acf lags scale run answer)) ≡ true
+    pub left-valid : validOf (stateOf (stepRun d acf lags scale run answer)) ≡ true
     left-valid = ap validOf state-left ∙ good .0
 
-    pub left-narrow : ((k : ℕ) → SFits w16 (at (next .rvad) k)) → narrowOf (stepRun acf lags scale run answer) ≡ true
-    left-narrow f = ap narrowOf (done-run acf lags scale run answer none) ∙ run-narrow next (good .1) (valid next (good .0)) f
+    pub left-narrow : ((k : ℕ) → SFits w16 (at (next .rvad) k)) → narrowOf (stepRun d acf lags scale run answer) ≡ true
+    left-narrow f = ap narrowOf (done-run d acf lags scale run answer none) ∙ run-narrow next (good .1) (valid next (good .0)) f

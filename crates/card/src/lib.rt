@@ -1,4 +1,5 @@
-// The detector's interface for C and Rust: a state and an answer as lent runs of numbers of 32 bits, and trace lines read and written.
+// The detector's interface for C and Rust: a state and an answer as lent runs of numbers of 32 bits, frames of both directions, and trace lines read and
+// written.
 ghost use mathlib.Core.Path.{_≡_};
 ghost use mathlib.Core.Bool.{true};
 ghost use mathlib.Core.List.{_++_};
@@ -9,11 +10,14 @@ ghost use mir.Syntax.{w16};
 ghost use mir.Val.{SFits};
 ghost use Rattle.numbers.specs.Sum.{at};
 ghost use Rattle.state.specs.Valid.{Between};
+ghost use Rattle.detector.specs.Refusal.{up, down, directionOf};
 ghost use Rattle.card.specs.Run as card;
 ghost use Rattle.card.specs.Lines as trace;
+use detector::Answer;
 use detector::LAGS;
 use detector::NUMBERS;
-use detector::step;
+use detector::SAMPLES;
+use detector::frame;
 use lines::read;
 use lines::write;
 use pairs::Pair;
@@ -22,7 +26,7 @@ use rows::within;
 use state::State;
 
 // The numbers of a state, and of an answer. Which stands where is in specs/Run.antt.
-const RUN: usize = 84;
+const RUN: usize = 85;
 
 const ANSWER: usize = 6;
 
@@ -52,7 +56,10 @@ fn narrow(run: [i32; RUN]) -> bool
     if !within(0, 27, run[74]) {
         return false;
     }
-    within(0, 65535, run[83])
+    if !within(0, 65535, run[83]) {
+        return false;
+    }
+    within(0, 1, run[84])
 }
 
 // The filter in a run.
@@ -113,6 +120,16 @@ fn last_lag(run: [i32; RUN]) -> u16
     run[83] as u16
 }
 
+// Whether a number is that of a flag that is set.
+fn flag(x: i32) -> bool
+    ensures { λ r. ⌜ r ≡ card.flagOf x ⌝ }
+{
+    if x == 1 {
+        return true;
+    }
+    false
+}
+
 // The state in a run whose numbers fit.
 fn unpacked(run: [i32; RUN]) -> State
     requires { ⌜ card.narrowOf run ≡ true ⌝ }
@@ -139,6 +156,7 @@ fn unpacked(run: [i32; RUN]) -> State
         oldlagcount: short_at(run, 81),
         veryoldlagcount: short_at(run, 82),
         oldlag: last_lag(run),
+        tone: flag(run[84]),
     }
 }
 
@@ -177,6 +195,13 @@ fn with_sums(run: [i32; RUN], sav0: [i32; 36]) -> [i32; RUN]
     out
 }
 
+// 1 for a flag that is set and 0 for one that is not.
+fn bit(flag: bool) -> i32
+    ensures { λ r. ⌜ r ≡ card.bitOf flag ⌝ }
+{
+    if flag { 1 } else { 0 }
+}
+
 // A state as a run.
 fn packed(s: State) -> [i32; RUN]
     requires { ⌜ (s .ptsacf ≤ 27) × (s .ptsav0 ≤ 27) ⌝ }
@@ -202,12 +227,13 @@ fn packed(s: State) -> [i32; RUN]
     out[81] = s.oldlagcount as i32;
     out[82] = s.veryoldlagcount as i32;
     out[83] = s.oldlag as i32;
+    out[84] = bit(s.tone);
     out
 }
 
 // ---- what is lent
 
-// The 84 numbers of a lent run, by value.
+// The 85 numbers of a lent run, by value.
 fn taken(state: &[i32]) -> [i32; RUN]
     requires { ⌜ length (now state) ≡ card.RUN ⌝ }
     ensures { λ r. ⌜ r ≡ now (state .entry) ⌝ }
@@ -229,13 +255,6 @@ fn put(state: &mut [i32], run: [i32; RUN])
     }
 }
 
-// 1 for a flag that is set and 0 for one that is not.
-fn bit(flag: bool) -> i32
-    ensures { λ r. ⌜ r ≡ card.bitOf flag ⌝ }
-{
-    if flag { 1 } else { 0 }
-}
-
 // Stores an answer into a lent run.
 fn put_answer(answer: &mut [i32], vad: bool, vvad: bool, acf0: Pair, pvad: Pair)
     requires { ⌜ length (now answer) ≡ card.ANSWER ⌝ }
@@ -249,33 +268,9 @@ fn put_answer(answer: &mut [i32], vad: bool, vvad: bool, acf0: Pair, pvad: Pair)
     answer[5] = pvad.m as i32;
 }
 
-// ---- the interface
-
-// The state after a reset, into a lent run of 84 numbers: 0, or 1 for a run of another length.
-#[no_mangle]
-pub extern "C" fn lindenflax_reset(state: &mut [i32]) -> u8
-    ensures { λ r. ⌜ r ≡ card.resetNumber (now (state .entry)) ⌝ }
-    ensures { λ _. ⌜ now (state .exit) ≡ card.resetRun (now (state .entry)) ⌝ }
-{
-    if state.len() != RUN {
-        return 1;
-    }
-    put(state, packed(State::reset()));
-    0
-}
-
-// One frame: nine autocorrelations, four lags, the scale, the state, which becomes the next, and where the answer goes.
-#[no_mangle]
-pub extern "C" fn lindenflax_step(
-    acf: &[i32],
-    lags: &[u16],
-    scale: i16,
-    state: &mut [i32],
-    answer: &mut [i32],
-) -> u8
-    ensures { λ r. ⌜ r ≡ card.stepNumber (now (acf .entry)) (now (lags .entry)) scale (now (state .entry)) (now (answer .entry)) ⌝ }
-    ensures { λ _. ⌜ now (state .exit) ≡ card.stepRun (now (acf .entry)) (now (lags .entry)) scale (now (state .entry)) (now (answer .entry)) ⌝ }
-    ensures { λ _. ⌜ now (answer .exit) ≡ card.stepAnswer (now (acf .entry)) (now (lags .entry)) scale (now (state .entry)) (now (answer .entry)) ⌝ }
+// The first of 1, 8, 5 that refuses what is lent, or 0; `samples` says that a frame has those of its direction.
+fn lent(samples: bool, acf: &[i32], lags: &[u16], state: &[i32], answer: &[i32]) -> u8
+    ensures { λ r. ⌜ r ≡ card.lentNumber samples (now (acf .entry)) (now (lags .entry)) (now (state .entry)) (now (answer .entry)) ⌝ }
 {
     if acf.len() != NUMBERS {
         return 1;
@@ -289,11 +284,22 @@ pub extern "C" fn lindenflax_step(
     if answer.len() != ANSWER {
         return 1;
     }
-    let run = taken(state);
-    if !narrow(run) {
+    if !samples {
+        return 8;
+    }
+    if !narrow(taken(state)) {
         return 5;
     }
-    let a = step(acf, lags, scale, unpacked(run));
+    0
+}
+
+// What follows a step in either direction: an accepted frame's next state and its answer go into the lent runs.
+fn store(a: Answer, state: &mut [i32], answer: &mut [i32]) -> u8
+    requires { ⌜ (length (now state) ≡ card.RUN) × (length (now answer) ≡ card.ANSWER) × (a .refusal ≡ 0 → (a .next .ptsacf ≤ 27) × (a .next .ptsav0 ≤ 27)) ⌝ }
+    ensures { λ r. ⌜ r ≡ a .refusal ⌝ }
+    ensures { λ _. ⌜ now (state .exit) ≡ card.runAfter (a .refusal) a (now (state .entry)) ⌝ }
+    ensures { λ _. ⌜ now (answer .exit) ≡ card.answerAfter (a .refusal) a (now (answer .entry)) ⌝ }
+{
     let number = a.refusal;
     if number != 0 {
         return number;
@@ -304,6 +310,83 @@ pub extern "C" fn lindenflax_step(
     put(state, packed(next));
     put_answer(answer, a.vad, a.vvad, acf0, pvad);
     0
+}
+
+// One frame in either direction.
+fn stepped(
+    downlink: bool,
+    acf: &[i32],
+    lags: &[u16],
+    scale: i16,
+    samples: &[i16],
+    state: &mut [i32],
+    answer: &mut [i32],
+) -> u8
+    ensures { λ r. ⌜ r ≡ card.stepNumber (directionOf downlink (now (samples .entry))) (now (acf .entry)) (now (lags .entry)) scale (now (state .entry)) (now (answer .entry)) ⌝ }
+    ensures { λ _. ⌜ now (state .exit) ≡ card.stepRun (directionOf downlink (now (samples .entry))) (now (acf .entry)) (now (lags .entry)) scale (now (state .entry)) (now (answer .entry)) ⌝ }
+    ensures { λ _. ⌜ now (answer .exit) ≡ card.stepAnswer (directionOf downlink (now (samples .entry))) (now (acf .entry)) (now (lags .entry)) scale (now (state .entry)) (now (answer .entry)) ⌝ }
+{
+    let refused = lent(
+        !downlink | (samples.len() == SAMPLES),
+        acf,
+        lags,
+        state,
+        answer,
+    );
+    if refused != 0 {
+        return refused;
+    }
+    let a = frame(downlink, acf, lags, scale, samples, unpacked(taken(state)));
+    store(a, state, answer)
+}
+
+// ---- the interface
+
+// The state after a reset, into a lent run of 85 numbers: 0, or 1 for a run of another length.
+#[no_mangle]
+pub extern "C" fn lindenflax_reset(state: &mut [i32]) -> u8
+    ensures { λ r. ⌜ r ≡ card.resetNumber (now (state .entry)) ⌝ }
+    ensures { λ _. ⌜ now (state .exit) ≡ card.resetRun (now (state .entry)) ⌝ }
+{
+    if state.len() != RUN {
+        return 1;
+    }
+    put(state, packed(State::reset()));
+    0
+}
+
+// One frame on the uplink: nine autocorrelations, four lags, the scale, the state, which becomes the next, and where the answer goes.
+#[no_mangle]
+pub extern "C" fn lindenflax_step(
+    acf: &[i32],
+    lags: &[u16],
+    scale: i16,
+    state: &mut [i32],
+    answer: &mut [i32],
+) -> u8
+    ensures { λ r. ⌜ r ≡ card.stepNumber up (now (acf .entry)) (now (lags .entry)) scale (now (state .entry)) (now (answer .entry)) ⌝ }
+    ensures { λ _. ⌜ now (state .exit) ≡ card.stepRun up (now (acf .entry)) (now (lags .entry)) scale (now (state .entry)) (now (answer .entry)) ⌝ }
+    ensures { λ _. ⌜ now (answer .exit) ≡ card.stepAnswer up (now (acf .entry)) (now (lags .entry)) scale (now (state .entry)) (now (answer .entry)) ⌝ }
+{
+    let none = [0i16; 1];
+    stepped(false, acf, lags, scale, &none[..0], state, answer)
+}
+
+// One frame on the downlink: the same, and its 160 samples.
+#[no_mangle]
+pub extern "C" fn lindenflax_downlink(
+    acf: &[i32],
+    lags: &[u16],
+    scale: i16,
+    samples: &[i16],
+    state: &mut [i32],
+    answer: &mut [i32],
+) -> u8
+    ensures { λ r. ⌜ r ≡ card.stepNumber (down (now (samples .entry))) (now (acf .entry)) (now (lags .entry)) scale (now (state .entry)) (now (answer .entry)) ⌝ }
+    ensures { λ _. ⌜ now (state .exit) ≡ card.stepRun (down (now (samples .entry))) (now (acf .entry)) (now (lags .entry)) scale (now (state .entry)) (now (answer .entry)) ⌝ }
+    ensures { λ _. ⌜ now (answer .exit) ≡ card.stepAnswer (down (now (samples .entry))) (now (acf .entry)) (now (lags .entry)) scale (now (state .entry)) (now (answer .entry)) ⌝ }
+{
+    stepped(true, acf, lags, scale, samples, state, answer)
 }
 
 // A trace line read: nine autocorrelations, four lags and a run of one for the scale, or the first of 1, 6, 2, 3, 4 that refuses it.

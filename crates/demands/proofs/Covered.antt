@@ -1,13 +1,14 @@
 -- In an accepted frame from a valid state no clause meets what was decided where document 01 is silent: specs/Covered.antt, clause by clause.
 -- Assumes nothing.
 use mathlib.Core.Path.{_≡_, refl, sym, ap, _∙_, subst}
-use mathlib.Core.Bool.{false, _&&_}
+use mathlib.Core.Bool.{true, false, true≢false, _&&_}
 use mathlib.Core.List.{List}
 use mathlib.Core.Logic.{⊎-elim}
 use Prim.Native.Nat.{ℕ, zero, suc, _+_, _/_, _≤_}
 use native.Mathlib.Omega.{arith}
 use lib.Count.{leadingZeros, leading-le}
-use lib.IntN.{ℤ, pos, negsuc, _*ℤ_}
+use lib.IntN.{ℤ, pos, negsuc, _+ℤ_, _*ℤ_}
+use lib.ListN.{set}
 use lib.Signed.{leZ, _≤ℤ_, _<ℤ_}
 use mir.Syntax.{w16, w32}
 use mir.Val.{SFits}
@@ -16,12 +17,14 @@ use Rattle.numbers.specs.Clamp.{clamp}
 use Rattle.numbers.specs.Floor.{residue}
 use Rattle.numbers.specs.Wrap.{wrap}
 use Rattle.numbers.proofs.Parts.{zarith, of, sign, same, le-true, plus, minus, times}
-use Rattle.operations.specs.Operations.{add, sub, L-add, abs, short, norm, div, shiftLeft, shiftRight, _>>_, _<<ₛ_}
-use Rattle.operations.proofs.Laws.{left-exact, short-exact, L-add-fits}
+use Rattle.numbers.proofs.Clamp.{clamp-mono}
+use Rattle.operations.specs.Operations.{add, sub, L-add, mult-r, L-mult, abs, short, norm, div, shiftLeft, shiftRight, _<<_, _>>_, _<<ₛ_}
+use Rattle.operations.proofs.Laws.{L-add-fits, L-mult-fits, left-exact, right-fits, short-exact}
 use Rattle.operations.proofs.Exact.{sub-parts, L-add-parts, right-parts}
+use Rattle.operations.proofs.Top.{top-short}
 use Rattle.rows.specs.Choice.{IF_THEN_ELSE_, eqZ, within}
-use Rattle.rows.specs.Rows.{row, all}
-use Rattle.rows.proofs.Choice.{either, both, by-yes}
+use Rattle.rows.specs.Rows.{row, all, L-sum}
+use Rattle.rows.proofs.Choice.{either, both, by-yes, eqZ-yes}
 use Rattle.rows.proofs.Fill.{row-at}
 use Rattle.pairs.specs.declared.Pair.{Pair}
 use Rattle.pairs.specs.Pairs.{silent, greaterOf}
@@ -34,7 +37,7 @@ use Rattle.averages.specs.Averages.{L-tempOf, L-av0Of, averageOf}
 use Rattle.averages.proofs.Pointers.{inside-is}
 use Rattle.averages.proofs.Kept.{average-keeps}
 use Rattle.predictor.specs.Schur as schur
-use Rattle.predictor.specs.Schur.{Arrays, KOf, leavesOf, coefficientOf, outerFrom, schurOf, vparOf}
+use Rattle.predictor.specs.Schur.{Arrays, KOf, leavesOf, coefficientOf, outerFrom, schurOf, reflectionOf, vparOf}
 use Rattle.predictor.specs.StepUp.{aav1Of}
 use Rattle.predictor.specs.Filter.{predictedOf}
 use Rattle.predictor.specs.declared.Filter.{Filter}
@@ -42,19 +45,24 @@ use Rattle.predictor.proofs.Predictor.{aav1-first, aav1-small}
 use Rattle.predictor.proofs.Autocorrelation.{work-first-in, norm-is, norm-in}
 use Rattle.predictor.proofs.Bounds.{Whitening, predicted-whitening}
 use Rattle.threshold.specs.Threshold.{PTH, MARGIN}
+use Rattle.tone.specs.Window.{hann, windowOf, sofhOf}
+use Rattle.tone.specs.Autocorrelation.{smaxOf, scalautoOf, dynamicOf, L-acfhOf}
+use Rattle.tone.specs.Coefficients.{rcOf, a1Of, a2Of}
+use Rattle.tone.specs.Worked.{periods, four-hundred}
+use Rattle.tone.proofs.Small.{smax-range, scalauto-le}
 use Rattle.state.specs.declared.State.{State}
 use Rattle.state.specs.Valid.{pointerOk, sacfWithin, sacfOk, sav0Ok, weightOf, rvadOk, thvadOk, lagOk, countsOk, validOf, Between, Shaped, resetOf}
-use Rattle.detector.specs.Refusal.{lengthsOk, scaleOk, acfOk, lagsOk, frameRefusalOf, refusalOf}
+use Rattle.detector.specs.Refusal.{Direction, up, down, lengthsOk, samplesOk, scaleOk, acfOk, lagsOk, frameRefusalOf, refusalOf}
 use Rattle.detector.proofs.Keeps.{Numbers, accepted, kind, filter-ok, incoming, frames-was, frames-at-was, sums-was, sums-at-was}
 use Rattle.detector.specs.declared.Answer.{Answer}
-use Rattle.detector.specs.Step.{stepOf}
+use Rattle.detector.specs.Step.{answerFor}
 use Rattle.demands.specs.Demands.{NeverMet}
 use Rattle.demands.specs.Worked.{acf, forty}
 use Rattle.demands.specs.Idle.{quiet}
-use Rattle.demands.specs.Covered.{Divides, Clause-6-1, Clause-6-2, coefficientBy, outerBy, schurBy, vparBy, Clause-6-3-1, Clause-6-3-2, Clause-6-3-3, tempOf, divisorOf, Clause-6-4, Fitted, Clause-6-6, Covered}
+use Rattle.demands.specs.Covered.{Divides, Clause-6-1, Clause-6-2, coefficientBy, outerBy, schurBy, reflectionBy, Clause-6-3-1, Clause-6-3-2, Clause-6-3-3, tempOf, divisorOf, Clause-6-4, Fitted, Clause-6-6, Clause-6-10-2, Clause-6-10-5, Clause-6-10, Covered}
 use Rattle.demands.proofs.Meets.{numbered, reset-meets}
 use Rattle.demands.proofs.Idle.{numbers}
-use Rattle.predictor.proofs.Division.{abs-some, stays, vpar-fits}
+use Rattle.predictor.proofs.Division.{abs-some, stays, reflection-fits, vpar-fits}
 use Rattle.spectrum.proofs.Divisor.{Long, long, temp-long, top-range, sav0-eight, divisor-range}
 use Rattle.threshold.proofs.Assigned.{right-far, short-half, short-whole, lowered-twice, lowered-mantissa, tripled-in, added-in}
 
@@ -112,13 +120,13 @@ module _ (division : ℤ → ℤ → ℤ) (alike : (x y : ℤ) → Divides x y �
       (λ t. rw t)
       (λ t. rw (t, coefficient-alike P0 P1 t) (outer-alike N turns (n + 1) _ _))
 
-  vpar-alike : (L-av1 : List ℤ) → vparBy division L-av1 ≡ vparOf L-av1
-  unfolding vparBy vparOf schurBy schurOf
-  vpar-alike L-av1 = let sacf = row 9 (schur.sacfOf L-av1) in rw (outer-alike 8 8 1 (record { P = sacf; K = row 9 (KOf 8 sacf) }) (row 9 (λ i. pos 0)))
+  reflection-alike : (N : ℕ) (L-av1 : List ℤ) → reflectionBy division N L-av1 ≡ reflectionOf N L-av1
+  unfolding reflectionBy reflectionOf schurBy schurOf
+  reflection-alike N L-av1 = let sacf = row 9 (schur.sacfOf L-av1) in rw (outer-alike N N 1 (record { P = sacf; K = row 9 (KOf N sacf) }) (row 9 (λ i. pos 0)))
 
-clause-6-3-1 : (L-av1 : List ℤ) → pos 0 ≤ℤ at L-av1 0 → Clause-6-3-1 L-av1
-clause-6-3-1 L-av1 h =
-    record { temp = h; by-temp = norm-amount (at L-av1 0); vpar = divides; any-division = λ division alike. vpar-alike division alike L-av1 }
+clause-6-3-1 : (N : ℕ) (L-av1 : List ℤ) → pos 0 ≤ℤ at L-av1 0 → Clause-6-3-1 N L-av1
+clause-6-3-1 N L-av1 h =
+    record { temp = h; by-temp = norm-amount (at L-av1 0); vpar = divides; any-division = λ division alike. reflection-alike division alike N L-av1 }
 
 -- ---- 6.3.2
 clause-6-3-2 : (vpar : List ℤ) → ((k : ℕ) → SFits w16 (at vpar k)) → Clause-6-3-2 vpar
@@ -204,15 +212,77 @@ clause-6-6 thvad pvad k w =
         let s = sub-parts (pos 27) (pvad .e) (omega (zarith, minus (pos 27) (pvad .e), w .e-low)) in
         record { from = omega zarith; to = omega (zarith, w .e-low) }
 
+-- ---- 6.10.2
+clause-6-10-2 : (smax : ℤ) → (pos 0 ≤ℤ smax) × (smax ≤ℤ pos 32767) → Clause-6-10-2 smax
+clause-6-10-2 smax i =
+    record {
+      lifted = exact;
+      norm-smax = rw exact (omega (zarith, times smax (pos 65536), i .0));
+      asked = λ h. rw exact (omega (zarith, times smax (pos 65536), not-0 h));
+      by-scalauto = λ h.
+          let n = scalautoOf smax in
+          let l = scalauto-le smax in
+          let s = sub-parts n (pos 1) (omega (zarith, minus n (pos 1), h, l)) in
+          record { from = omega (zarith, h); to = omega (zarith, l) };
+    }
+  where
+    exact : smax << pos 16 ≡ smax *ℤ pos 65536
+    exact = left-exact w32 smax 16 (omega (zarith, times smax (pos 65536), i .0, i .1))
+
+    not-0 : eqZ smax (pos 0) ≡ false → pos 1 ≤ℤ smax
+    not-0 h = either (pos 1 ≤ℤ smax) (leZ (pos 1) smax) (λ u. omega zarith) (λ u. absurd (true≢false (sym (eqZ-yes (omega (zarith, i .0))) ∙ h)))
+
+-- ---- 6.10.3: L_acfh[0] is a sum of squares
+square : (x : ℤ) → pos 0 ≤ℤ L-mult x x
+unfolding L-mult clamp
+square x = clamp-mono w32 (pos 0) (x *ℤ x *ℤ pos 2) (doubled x)
+  where
+    doubled : (x : ℤ) → pos 0 ≤ℤ (x *ℤ x *ℤ pos 2)
+    doubled (pos n) = omega zarith
+    doubled (negsuc n) = omega zarith
+
+sum-some : (n : ℕ) (t : ℕ → ℤ) → ((k : ℕ) → pos 0 ≤ℤ t k) → pos 0 ≤ℤ L-sum n t
+unfolding L-sum L-add clamp
+sum-some zero t h = omega zarith
+sum-some (suc n) t h = clamp-mono w32 (pos 0) (L-sum n t +ℤ t n) (omega (zarith, plus (L-sum n t) (t n), sum-some n t h, h n))
+
+acfh-some : (sofh : List ℤ) → pos 0 ≤ℤ L-acfhOf sofh 0
+unfolding L-acfhOf
+acfh-some sofh =
+    sum-some 160 (λ j. L-mult (at sofh (j + 0)) (at sofh j))
+    (λ j. let e : j ≡ j + 0 = omega arith in subst (λ (i : ℕ). pos 0 ≤ℤ L-mult (at sofh i) (at sofh j)) e (square (at sofh j)))
+
+-- ---- 6.10.5
+clause-6-10-5 : (a1 a2 : ℤ) → SFits w16 a2 → Clause-6-10-5 a1 a2
+clause-6-10-5 a1 a2 f =
+    record {
+      lifted = left-exact w32 a2 16 (omega (zarith, times a2 (pos 65536), of a2, sign a2, f .sfits));
+      temp = short-exact (top-short (L-mult a1 a1) 16 (omega arith) (L-mult-fits a1 a1));
+    }
+
+a2-fits : (sofh : List ℤ) → SFits w16 (a2Of (rcOf sofh))
+unfolding a2Of rcOf
+a2-fits sofh = right-fits w16 (at (rcOf sofh) 2) (pos 2) (reflection-fits 4 (row 5 (L-acfhOf sofh)) 2)
+
+-- ---- 6.10, whatever the samples are
+clause-6-10 : (sof : List ℤ) → Clause-6-10 sof
+clause-6-10 sof =
+    let sofh = dynamicOf (sofhOf sof) in
+    record {
+      c-6-10-2 = clause-6-10-2 (smaxOf 160 (sofhOf sof)) (smax-range (sofhOf sof) 160);
+      c-6-10-3 = clause-6-3-1 4 (row 5 (L-acfhOf sofh)) (subst (λ (z : ℤ). pos 0 ≤ℤ z) (sym (row-at 5 (L-acfhOf sofh) 0 (pos 0) (omega arith))) (acfh-some sofh));
+      c-6-10-5 = clause-6-10-5 (a1Of (rcOf sofh)) (a2Of (rcOf sofh)) (a2-fits sofh);
+    }
+
 -- ---- a whole frame
 average-fits : (L-ACF : List ℤ) (scalvad : ℤ) (L-sacf : List ℤ) (p : ℕ) (L-sav0 : List ℤ) (q : ℕ) → SFits w32 (at (averageOf L-ACF scalvad L-sacf p L-sav0 q .av0) 0)
 unfolding averageOf L-av0Of
 average-fits L-ACF scalvad L-sacf p L-sav0 q =
     subst (SFits w32) (sym (row-at 9 (L-av0Of L-sacf (row 9 (L-tempOf L-ACF scalvad))) 0 (pos 0) (omega arith))) (L-add-fits _ _)
 
-pub covered : (L-ACF : List ℤ) (lags : List ℕ) (scalvad : ℤ) (s : State) → Numbers L-ACF → Shaped s → refusalOf L-ACF lags scalvad s ≡ 0 → Covered L-ACF lags scalvad s
-covered L-ACF lags scalvad s fits shape none =
-    let ok = accepted L-ACF lags scalvad s none in
+pub covered : (d : Direction) (L-ACF : List ℤ) (lags : List ℕ) (scalvad : ℤ) (s : State) → Numbers L-ACF → Shaped s → refusalOf (samplesOk d) L-ACF lags scalvad s ≡ 0 → Covered d L-ACF lags scalvad s
+covered d L-ACF lags scalvad s fits shape none =
+    let ok = accepted (samplesOk d) L-ACF lags scalvad s none in
     let v = ok .state in
     let a = average-keeps L-ACF scalvad (s .sacf) (s .ptsacf) (s .sav0) (s .ptsav0) (incoming L-ACF lags scalvad s fits shape ok) (frames-was s shape v) (frames-at-was s shape v) (sums-was s shape v) (sums-at-was s shape v) in
     let L-av0 = averageOf L-ACF scalvad (s .sacf) (s .ptsacf) (s .sav0) (s .ptsav0) .av0 in
@@ -221,7 +291,7 @@ covered L-ACF lags scalvad s fits shape none =
       c-6-1 = λ h.
           ⊎-elim (λ e. absurd (omega (zarith, same e))) (λ g. clause-6-1 L-ACF scalvad (s .rvad) g (ok .scale)) (kind L-ACF lags scalvad s fits shape ok);
       c-6-2 = clause-6-2 scalvad (s .ptsacf) (s .ptsav0) (ok .scale) (v .ptsacf-last) (v .ptsav0-last);
-      c-6-3-1 = clause-6-3-1 L-av1 (a .av1-first);
+      c-6-3-1 = clause-6-3-1 8 L-av1 (a .av1-first);
       c-6-3-2 = clause-6-3-2 (vparOf L-av1) (vpar-fits L-av1);
       c-6-3-3 = clause-6-3-3 (vparOf L-av1);
       c-6-4 = clause-6-4 L-av0 _ _ (long (at L-av0 0) (a .av0-first) (average-fits L-ACF scalvad (s .sacf) (s .ptsacf) (s .sav0) (s .ptsav0))) (temp-long (predictedOf L-av1 .rav1) L-av0) (predicted-whitening L-av1);
@@ -230,29 +300,35 @@ covered L-ACF lags scalvad s fits shape none =
           (energy-loud L-ACF scalvad (s .rvad) (s .normrvad) (kind L-ACF lags scalvad s fits shape ok) (ok .scale .from) (ok .scale .to)
           (filter-ok L-ACF lags scalvad s fits shape ok) (v .normrvad .from) (v .normrvad .to) t);
       c-6-9 = record { first = v .oldlag .0; each = λ j h. ok .each-lag j h .0 };
+      c-6-10 = λ sof e. clause-6-10 sof;
       all-zero = λ e. ap (λ (x : Energies). greaterOf PTH (x .acf0)) (energy-silent L-ACF scalvad (s .rvad) (s .normrvad) e) ∙ sym (above PTH silent refl);
     }
 
--- what a caller has: `r ≡ stepOf ..` is what the function ensures
-pub never-met : (L-ACF : List ℤ) (lags : List ℕ) (scalvad : ℤ) (s : State) (r : Answer) → r ≡ stepOf L-ACF lags scalvad s → Numbers L-ACF → Shaped s → NeverMet L-ACF lags scalvad s r
-never-met L-ACF lags scalvad s r e fits shape none =
-    covered L-ACF lags scalvad s fits shape (sym (numbered L-ACF lags scalvad s) ∙ (ap (λ (x : Answer). x .refusal) (sym e) ∙ none))
+-- what a caller has: `r ≡ answerFor d ..` is what the function of the direction d ensures
+pub never-met : (d : Direction) (L-ACF : List ℤ) (lags : List ℕ) (scalvad : ℤ) (s : State) (r : Answer) → r ≡ answerFor d L-ACF lags scalvad s → Numbers L-ACF → Shaped s → NeverMet d L-ACF lags scalvad s r
+never-met d L-ACF lags scalvad s r e fits shape none =
+    covered d L-ACF lags scalvad s fits shape (sym (numbered d L-ACF lags scalvad s) ∙ (ap (λ (x : Answer). x .refusal) (sym e) ∙ none))
 
 -- ---- frames that this speaks of: one with energy, and one that is not below the level of 6.6
-pub covered-quiet : Covered quiet forty (pos 0) resetOf × (pos 1 ≤ℤ at quiet 0)
-unfolding refusalOf frameRefusalOf lengthsOk scaleOk acfOk lagsOk validOf countsOk pointerOk sacfOk sacfWithin sav0Ok rvadOk weightOf thvadOk lagOk within resetOf row all total IF_THEN_ELSE_
-covered-quiet = (covered quiet forty (pos 0) resetOf (numbers 1 (omega arith)) (reset-meets .1) refl, omega zarith)
+pub covered-quiet : Covered up quiet forty (pos 0) resetOf × (pos 1 ≤ℤ at quiet 0)
+unfolding refusalOf frameRefusalOf lengthsOk samplesOk scaleOk acfOk lagsOk validOf countsOk pointerOk sacfOk sacfWithin sav0Ok rvadOk weightOf thvadOk lagOk within resetOf row all total IF_THEN_ELSE_
+covered-quiet = (covered up quiet forty (pos 0) resetOf (numbers 1 (omega arith)) (reset-meets .1) refl, omega zarith)
 
 abbrev strong : List ℤ
 strong = acf (pos 1073741824) (pos 0)
 
-pub covered-strong : Covered strong forty (pos 0) resetOf × (greaterOf PTH (energyOf strong (pos 0) (resetOf .rvad) (resetOf .normrvad) .acf0) ≡ false)
-unfolding refusalOf frameRefusalOf lengthsOk scaleOk acfOk lagsOk validOf countsOk pointerOk sacfOk sacfWithin sav0Ok rvadOk weightOf thvadOk lagOk within resetOf row all total IF_THEN_ELSE_ energyOf acf0Of sacfOf add sub norm leadingZeros shiftLeft shiftRight clamp wrap residue eqZ greaterOf
-covered-strong = (covered strong forty (pos 0) resetOf (numbers 1073741824 (omega arith)) (reset-meets .1) refl, refl)
+pub covered-strong : Covered up strong forty (pos 0) resetOf × (greaterOf PTH (energyOf strong (pos 0) (resetOf .rvad) (resetOf .normrvad) .acf0) ≡ false)
+unfolding refusalOf frameRefusalOf lengthsOk samplesOk scaleOk acfOk lagsOk validOf countsOk pointerOk sacfOk sacfWithin sav0Ok rvadOk weightOf thvadOk lagOk within resetOf row all total IF_THEN_ELSE_ energyOf acf0Of sacfOf add sub norm leadingZeros shiftLeft shiftRight clamp wrap residue eqZ greaterOf
+covered-strong = (covered up strong forty (pos 0) resetOf (numbers 1073741824 (omega arith)) (reset-meets .1) refl, refl)
+
+-- and one of the downlink whose samples are scaled, by the largest amount: a tone of 400 Hz, from one end of the range to the other
+pub covered-down : Covered (down four-hundred) quiet forty (pos 0) resetOf × (scalautoOf (smaxOf 160 (sofhOf four-hundred)) ≡ pos 4)
+unfolding refusalOf frameRefusalOf lengthsOk samplesOk scaleOk acfOk lagsOk validOf countsOk pointerOk sacfOk sacfWithin sav0Ok rvadOk weightOf thvadOk lagOk within resetOf row all total IF_THEN_ELSE_ periods four-hundred hann windowOf sofhOf smaxOf scalautoOf sub mult-r abs norm leadingZeros shiftLeft clamp wrap residue eqZ
+covered-down = (covered (down four-hundred) quiet forty (pos 0) resetOf (numbers 1 (omega arith)) (reset-meets .1) refl, refl)
 
 -- ---- and divisions: `div` itself, so that the recursion of specs/Covered.antt is the clause's; and one that answers 0 where document 01 is silent
-pub same-recursion : (L-av1 : List ℤ) → vparBy div L-av1 ≡ vparOf L-av1
-same-recursion = vpar-alike div (λ x y h. refl)
+pub same-recursion : (N : ℕ) (L-av1 : List ℤ) → reflectionBy div N L-av1 ≡ reflectionOf N L-av1
+same-recursion = reflection-alike div (λ x y h. refl)
 
 abbrev elsewhere-0 : ℤ → ℤ → ℤ
 elsewhere-0 x y = IF leZ (pos 0) x && leZ x y THEN div x y ELSE pos 0

@@ -26,8 +26,8 @@ use Rattle.lags.specs.Lags.{smallagOf, countedOf, onceOf, lagcountOf}
 use Rattle.state.specs.declared.State.{State}
 use Rattle.state.specs.Valid.{pointerOk, sacfWithin, sacfOk, sav0Ok, weightOf, rvadOk, thvadOk, lagOk, countsOk, validOf, resetOf}
 use Rattle.detector.specs.declared.Answer.{Answer}
-use Rattle.detector.specs.Refusal.{lengthsOk, scaleOk, acfOk, lagsOk, frameRefusalOf, refusalOf}
-use Rattle.detector.specs.Step.{spectralOf, acceptedOf, refusedOf, stepOf}
+use Rattle.detector.specs.Refusal.{up, lengthsOk, samplesOk, scaleOk, acfOk, lagsOk, frameRefusalOf, refusalOf}
+use Rattle.detector.specs.Step.{spectralOf, acceptedOf, refusedOf, toneRead, toneKept, answerFor, stepOf}
 use Rattle.detector.proofs.Keeps.{Numbers, zeros-fit}
 use Rattle.demands.specs.Demands.{Demand3}
 use Rattle.demands.specs.Distance.{EOf, WOf, aOf, LOf, pOf, distanceOf, energyUnits, distanceUnits, pairUnits}
@@ -49,7 +49,7 @@ none-meets {L-ACF = L-ACF} {s = s} stopped f idle meets = stopped f idle (meets 
 
 -- ---- 1. refuses every frame
 pub refuser : Refuser
-unfolding stepOf acceptedOf refusalOf frameRefusalOf lengthsOk scaleOk acfOk lagsOk validOf countsOk pointerOk sacfOk sacfWithin sav0Ok rvadOk weightOf thvadOk lagOk within resetOf row all total IF_THEN_ELSE_
+unfolding answerFor samplesOk toneRead toneKept acceptedOf refusalOf frameRefusalOf lengthsOk scaleOk acfOk lagsOk validOf countsOk pointerOk sacfOk sacfWithin sav0Ok rvadOk weightOf thvadOk lagOk within resetOf row all total IF_THEN_ELSE_
 refuser f idle e = idle _ _ _ _ (ap (λ (r : Answer). r .refusal) e)
 
 -- it gives number 1 to every frame
@@ -59,12 +59,12 @@ refuser-is L-ACF lags scalvad s e = omega (arith, e)
 
 -- ---- 2. always says speech
 pub always-speech : AlwaysSpeech
-unfolding stepOf acceptedOf refusalOf frameRefusalOf lengthsOk scaleOk acfOk lagsOk validOf countsOk pointerOk sacfOk sacfWithin sav0Ok rvadOk weightOf thvadOk lagOk within resetOf row all total IF_THEN_ELSE_ energyOf acf0Of pvadOf filterSumOf positive sacfOf L-sum add sub L-add L-mult norm leadingZeros shiftLeft shiftRight clamp wrap residue eqZ adaptOf greaterOf hangoverOf startedOf burstOf runDownOf
+unfolding answerFor samplesOk toneRead toneKept acceptedOf refusalOf frameRefusalOf lengthsOk scaleOk acfOk lagsOk validOf countsOk pointerOk sacfOk sacfWithin sav0Ok rvadOk weightOf thvadOk lagOk within resetOf row all total IF_THEN_ELSE_ energyOf acf0Of pvadOf filterSumOf positive sacfOf L-sum add sub L-add L-mult norm leadingZeros shiftLeft shiftRight clamp wrap residue eqZ adaptOf greaterOf hangoverOf startedOf burstOf runDownOf
 always-speech f idle e = true≢false (sym (idle _ _ _ _ (ap (λ (r : Answer). r .refusal) e)) ∙ ap (λ (r : Answer). r .vad) e)
 
 -- ---- 3. always says quiet
 pub always-quiet : AlwaysQuiet
-unfolding stepOf acceptedOf refusalOf frameRefusalOf lengthsOk scaleOk acfOk lagsOk validOf countsOk pointerOk sacfOk sacfWithin sav0Ok rvadOk weightOf thvadOk lagOk within resetOf row all total IF_THEN_ELSE_ energyOf acf0Of pvadOf filterSumOf positive sacfOf L-sum add sub L-add L-mult norm leadingZeros shiftLeft shiftRight clamp wrap residue eqZ adaptOf greaterOf hangoverOf startedOf burstOf runDownOf
+unfolding answerFor samplesOk toneRead toneKept acceptedOf refusalOf frameRefusalOf lengthsOk scaleOk acfOk lagsOk validOf countsOk pointerOk sacfOk sacfWithin sav0Ok rvadOk weightOf thvadOk lagOk within resetOf row all total IF_THEN_ELSE_ energyOf acf0Of pvadOf filterSumOf positive sacfOf L-sum add sub L-add L-mult norm leadingZeros shiftLeft shiftRight clamp wrap residue eqZ adaptOf greaterOf hangoverOf startedOf burstOf runDownOf
 always-quiet f idle e = false≢true (sym (idle _ _ _ _ (ap (λ (r : Answer). r .refusal) e)) ∙ ap (λ (r : Answer). r .vad) e)
 
 -- a program that says only the one, and is right in all else
@@ -90,20 +90,20 @@ numbers n h zero = record { sfits = h }
 numbers n h (suc k) = zeros-fit 8 k
 
 pub decides-quiet-is : (stepOf quiet forty (pos 0) resetOf .next .thvad ≡ PLEV) × Demand3 quiet (pos 0) resetOf (stepOf quiet forty (pos 0) resetOf)
-unfolding stepOf acceptedOf refusalOf frameRefusalOf lengthsOk scaleOk acfOk lagsOk validOf countsOk pointerOk sacfOk sacfWithin sav0Ok rvadOk weightOf thvadOk lagOk within resetOf row all total IF_THEN_ELSE_ energyOf acf0Of sacfOf add sub norm leadingZeros shiftLeft shiftRight clamp wrap residue eqZ adaptOf greaterOf
-decides-quiet-is = (refl, demand-3 quiet forty (pos 0) resetOf (numbers 1 (omega arith)) (reset-meets .1) refl (record { le = tt }))
+unfolding answerFor samplesOk toneRead toneKept acceptedOf refusalOf frameRefusalOf lengthsOk scaleOk acfOk lagsOk validOf countsOk pointerOk sacfOk sacfWithin sav0Ok rvadOk weightOf thvadOk lagOk within resetOf row all total IF_THEN_ELSE_ energyOf acf0Of sacfOf add sub norm leadingZeros shiftLeft shiftRight clamp wrap residue eqZ adaptOf greaterOf
+decides-quiet-is = (refl, demand-3 up quiet forty (pos 0) resetOf (numbers 1 (omega arith)) (reset-meets .1) refl (record { le = tt }))
 
 pub decides-speech-is : (stepOf loud forty (pos 0) resetOf .next .thvad ≡ PLEV) × Demand3 loud (pos 0) resetOf (stepOf loud forty (pos 0) resetOf)
-unfolding stepOf acceptedOf refusalOf frameRefusalOf lengthsOk scaleOk acfOk lagsOk validOf countsOk pointerOk sacfOk sacfWithin sav0Ok rvadOk weightOf thvadOk lagOk within resetOf row all total IF_THEN_ELSE_ energyOf acf0Of sacfOf add sub norm leadingZeros shiftLeft shiftRight clamp wrap residue eqZ adaptOf greaterOf
-decides-speech-is = (refl, demand-3 loud forty (pos 0) resetOf (numbers 100000 (omega arith)) (reset-meets .1) refl (record { le = tt }))
+unfolding answerFor samplesOk toneRead toneKept acceptedOf refusalOf frameRefusalOf lengthsOk scaleOk acfOk lagsOk validOf countsOk pointerOk sacfOk sacfWithin sav0Ok rvadOk weightOf thvadOk lagOk within resetOf row all total IF_THEN_ELSE_ energyOf acf0Of sacfOf add sub norm leadingZeros shiftLeft shiftRight clamp wrap residue eqZ adaptOf greaterOf
+decides-speech-is = (refl, demand-3 up loud forty (pos 0) resetOf (numbers 100000 (omega arith)) (reset-meets .1) refl (record { le = tt }))
 
 -- ---- 4. hands back the state it got
 pub keeps-pointer : KeepsPointer
-unfolding stepOf acceptedOf refusalOf frameRefusalOf lengthsOk scaleOk acfOk lagsOk validOf countsOk pointerOk sacfOk sacfWithin sav0Ok rvadOk weightOf thvadOk lagOk within resetOf row all total IF_THEN_ELSE_ spectralOf averageOf inside nextOf eqZ
+unfolding answerFor samplesOk toneRead toneKept acceptedOf refusalOf frameRefusalOf lengthsOk scaleOk acfOk lagsOk validOf countsOk pointerOk sacfOk sacfWithin sav0Ok rvadOk weightOf thvadOk lagOk within resetOf row all total IF_THEN_ELSE_ spectralOf averageOf inside nextOf eqZ
 keeps-pointer f idle e = false≢true (ap (λ (n : ℕ). eqb n 0) (sym (ap (λ (r : Answer). r .next .ptsacf) e) ∙ idle _ _ _ _))
 
 pub keeps-lagcount : KeepsLagcount
-unfolding stepOf acceptedOf refusalOf frameRefusalOf lengthsOk scaleOk acfOk lagsOk validOf countsOk pointerOk sacfOk sacfWithin sav0Ok rvadOk weightOf thvadOk lagOk within resetOf row all total IF_THEN_ELSE_ lagcountOf onceOf countedOf smallagOf
+unfolding answerFor samplesOk toneRead toneKept acceptedOf refusalOf frameRefusalOf lengthsOk scaleOk acfOk lagsOk validOf countsOk pointerOk sacfOk sacfWithin sav0Ok rvadOk weightOf thvadOk lagOk within resetOf row all total IF_THEN_ELSE_ lagcountOf onceOf countedOf smallagOf
 keeps-lagcount f idle e = true≢false (ap (leZ (pos 1)) (sym (ap (λ (r : Answer). r .next .oldlagcount) e) ∙ idle _ _ _ _))
 
 pub hands-back : HandsBack
@@ -115,7 +115,7 @@ hands-back-is L-ACF lags scalvad s = refl
 
 -- ---- 5. repeats its first answer
 pub repeater : Repeater
-unfolding stepOf acceptedOf refusalOf frameRefusalOf lengthsOk scaleOk acfOk lagsOk validOf countsOk pointerOk sacfOk sacfWithin sav0Ok rvadOk weightOf thvadOk lagOk within resetOf row all total IF_THEN_ELSE_ energyOf acf0Of pvadOf filterSumOf positive sacfOf L-sum add sub L-add L-mult norm leadingZeros shiftLeft shiftRight clamp wrap residue eqZ adaptOf greaterOf hangoverOf startedOf burstOf runDownOf spectralOf averageOf inside nextOf storedOf L-tempOf L-av0Of lagcountOf onceOf countedOf smallagOf
+unfolding answerFor samplesOk toneRead toneKept acceptedOf refusalOf frameRefusalOf lengthsOk scaleOk acfOk lagsOk validOf countsOk pointerOk sacfOk sacfWithin sav0Ok rvadOk weightOf thvadOk lagOk within resetOf row all total IF_THEN_ELSE_ energyOf acf0Of pvadOf filterSumOf positive sacfOf L-sum add sub L-add L-mult norm leadingZeros shiftLeft shiftRight clamp wrap residue eqZ adaptOf greaterOf hangoverOf startedOf burstOf runDownOf spectralOf averageOf inside nextOf storedOf L-tempOf L-av0Of lagcountOf onceOf countedOf smallagOf
 repeater f idle e =
     let again = ap (λ (s : State). f quiet forty (pos 0) s) (ap (λ (r : Answer). r .next) (sym (idle .first))) ∙ idle .again quiet forty (pos 0) ∙ idle .first in
     true≢false (ap (λ (r : Answer). r .vad) (sym again ∙ e))
@@ -125,7 +125,7 @@ abbrev repeating : Program
 repeating L-ACF lags scalvad s = IF eqZ (s .burstcount) (pos 0) THEN stepOf L-ACF lags scalvad s ELSE stepOf loud forty (pos 0) resetOf
 
 pub repeater-is : Repeats repeating
-unfolding stepOf acceptedOf refusalOf frameRefusalOf lengthsOk scaleOk acfOk lagsOk validOf countsOk pointerOk sacfOk sacfWithin sav0Ok rvadOk weightOf thvadOk lagOk within resetOf row all total IF_THEN_ELSE_ energyOf acf0Of pvadOf filterSumOf positive sacfOf L-sum add sub L-add L-mult norm leadingZeros shiftLeft shiftRight clamp wrap residue eqZ adaptOf greaterOf hangoverOf startedOf burstOf runDownOf
+unfolding answerFor samplesOk toneRead toneKept acceptedOf refusalOf frameRefusalOf lengthsOk scaleOk acfOk lagsOk validOf countsOk pointerOk sacfOk sacfWithin sav0Ok rvadOk weightOf thvadOk lagOk within resetOf row all total IF_THEN_ELSE_ energyOf acf0Of pvadOf filterSumOf positive sacfOf L-sum add sub L-add L-mult norm leadingZeros shiftLeft shiftRight clamp wrap residue eqZ adaptOf greaterOf hangoverOf startedOf burstOf runDownOf
 repeater-is = record { first = refl; again = λ L-ACF lags scalvad. refl }
 
 pub repeater-first : (L-ACF : List ℤ) (lags : List ℕ) (scalvad : ℤ) → repeating L-ACF lags scalvad resetOf ≡ stepOf L-ACF lags scalvad resetOf

@@ -22,8 +22,8 @@ use Rattle.state.specs.declared.State.{State}
 use Rattle.state.specs.Valid.{Shaped, Valid}
 use Rattle.state.proofs.Facts.{valid}
 use Rattle.detector.specs.declared.Answer.{Answer}
-use Rattle.detector.specs.Refusal.{refusalOf}
-use Rattle.detector.specs.Step.{acceptedOf, stepOf}
+use Rattle.detector.specs.Refusal.{Direction, samplesOk, refusalOf}
+use Rattle.detector.specs.Step.{acceptedOf, toneRead, toneKept, answerFor}
 use Rattle.detector.proofs.Table.{number-0, step-accepted}
 use Rattle.detector.proofs.Keeps.{Numbers, Accepted, accepted, filter-ok, step-keeps}
 use Rattle.detector.proofs.Frames.{decision-by-worth}
@@ -61,9 +61,9 @@ is-false true h = absurd (h refl)
 is-false false h = refl
 
 -- ---- the step
-module _ (L-ACF : List ℤ) (lags : List ℕ) (scalvad : ℤ) (s : State) (fits : Numbers L-ACF) (shape : Shaped s) (none : refusalOf L-ACF lags scalvad s ≡ 0) (some : pos 1 ≤ℤ at L-ACF 0) where
+module _ (d : Direction) (L-ACF : List ℤ) (lags : List ℕ) (scalvad : ℤ) (s : State) (fits : Numbers L-ACF) (shape : Shaped s) (none : refusalOf (samplesOk d) L-ACF lags scalvad s ≡ 0) (some : pos 1 ≤ℤ at L-ACF 0) where
   abbrev r : Answer
-  r = stepOf L-ACF lags scalvad s
+  r = answerFor d L-ACF lags scalvad s
 
   abbrev L : ℤ
   L = LOf L-ACF (s .rvad)
@@ -75,7 +75,7 @@ module _ (L-ACF : List ℤ) (lags : List ℕ) (scalvad : ℤ) (s : State) (fits 
   p = pOf L-ACF (s .rvad)
 
   ok : Accepted L-ACF lags scalvad s
-  ok = accepted L-ACF lags scalvad s none
+  ok = accepted (samplesOk d) L-ACF lags scalvad s none
 
   pub frame : Frame L-ACF
   frame = let z = at L-ACF 0 in record { some = some; largest = ok .largest; fits = omega (zarith, of z, sign z, fits 0 .sfits, some) }
@@ -89,13 +89,13 @@ module _ (L-ACF : List ℤ) (lags : List ℕ) (scalvad : ℤ) (s : State) (fits 
   abbrev n : Valid s
   n = ok .state
 
-  accepted-pvad : acceptedOf L-ACF lags scalvad s .pvad ≡ energyOf L-ACF scalvad (s .rvad) (s .normrvad) .pvad
+  accepted-pvad : acceptedOf (toneRead d s) (toneKept d) L-ACF lags scalvad s .pvad ≡ energyOf L-ACF scalvad (s .rvad) (s .normrvad) .pvad
   unfolding acceptedOf
   accepted-pvad = refl
 
   pvad-is : r .pvad ≡ q
   pvad-is =
-      ap (λ (x : Answer). x .pvad) (step-accepted L-ACF lags scalvad s none)
+      ap (λ (x : Answer). x .pvad) (step-accepted d L-ACF lags scalvad s none)
       ∙ accepted-pvad
       ∙ ap (λ (x : Energies). x .pvad) (energy-is L-ACF frame scalvad (ok .scale .from) (ok .scale .to) (s .rvad) filter (s .normrvad) (n .normrvad .from) (n .normrvad .to))
 
@@ -115,7 +115,7 @@ module _ (L-ACF : List ℤ) (lags : List ℕ) (scalvad : ℤ) (s : State) (fits 
   a-in = omega (zarith, norm-range (at L-ACF 0) first-some (frame .fits), same a-is)
 
   thvad-low : negsuc 31 ≤ℤ r .next .thvad .e
-  thvad-low = valid (r .next) (step-keeps L-ACF lags scalvad s fits shape (number-0 L-ACF lags scalvad s .0 none .1) .0) .exponent .from
+  thvad-low = valid (r .next) (step-keeps L-ACF lags scalvad s fits shape d (number-0 (samplesOk d) L-ACF lags scalvad s .0 none .2) .0) .exponent .from
 
   -- ---- where L is positive
   module _ (above : pos 0 <ℤ LOf L-ACF (s .rvad)) where
@@ -143,7 +143,7 @@ module _ (L-ACF : List ℤ) (lags : List ℕ) (scalvad : ℤ) (s : State) (fits 
     unfolding pvadOf
     mantissa = ap (λ (x : Pair). x .m) pvad-is ∙ ap (λ (z : ℤ). z << norm z >> pos 16) kept
 
-    pub exponent : stepOf L-ACF lags scalvad s .pvad .e ≡ pos 46 +ℤ scalvad *ℤ pos 2 -ℤ pos (aOf L-ACF) -ℤ s .normrvad -ℤ pos (pOf L-ACF (s .rvad))
+    pub exponent : answerFor d L-ACF lags scalvad s .pvad .e ≡ pos 46 +ℤ scalvad *ℤ pos 2 -ℤ pos (aOf L-ACF) -ℤ s .normrvad -ℤ pos (pOf L-ACF (s .rvad))
     exponent =
         ap (λ (x : Pair). x .e) pvad-is
         ∙ pvad-e L-ACF frame scalvad (ok .scale .from) (ok .scale .to) (s .rvad) filter (s .normrvad) (n .normrvad .from) (n .normrvad .to)
@@ -155,10 +155,10 @@ module _ (L-ACF : List ℤ) (lags : List ℕ) (scalvad : ℤ) (s : State) (fits 
     abbrev D : ℕ
     D = distanceOf L-ACF (s .rvad)
 
-    pub from-below : (stepOf L-ACF lags scalvad s .pvad .m *ℤ pos (2 ^ 35)) ≤ℤ (EOf L-ACF (s .rvad) *ℤ pos (2 ^ (aOf L-ACF + pOf L-ACF (s .rvad))) +ℤ pos (distanceOf L-ACF (s .rvad)))
+    pub from-below : (answerFor d L-ACF lags scalvad s .pvad .m *ℤ pos (2 ^ 35)) ≤ℤ (EOf L-ACF (s .rvad) *ℤ pos (2 ^ (aOf L-ACF + pOf L-ACF (s .rvad))) +ℤ pos (distanceOf L-ACF (s .rvad)))
     from-below = subst (λ (z : ℤ). (z *ℤ pos (2 ^ 35)) ≤ℤ (Z +ℤ pos D)) (sym mantissa) (not-below L-ACF frame (s .rvad) filter one)
 
-    pub from-above : (EOf L-ACF (s .rvad) *ℤ pos (2 ^ (aOf L-ACF + pOf L-ACF (s .rvad)))) ≤ℤ (stepOf L-ACF lags scalvad s .pvad .m *ℤ pos (2 ^ 35) +ℤ pos (distanceOf L-ACF (s .rvad)))
+    pub from-above : (EOf L-ACF (s .rvad) *ℤ pos (2 ^ (aOf L-ACF + pOf L-ACF (s .rvad)))) ≤ℤ (answerFor d L-ACF lags scalvad s .pvad .m *ℤ pos (2 ^ 35) +ℤ pos (distanceOf L-ACF (s .rvad)))
     from-above = subst (λ (z : ℤ). Z ≤ℤ (z *ℤ pos (2 ^ 35) +ℤ pos D)) (sym mantissa) (not-above L-ACF frame (s .rvad) filter one)
 
     -- ---- in the units of the decision
@@ -186,18 +186,18 @@ module _ (L-ACF : List ℤ) (lags : List ℕ) (scalvad : ℤ) (s : State) (fits 
     e-low : negsuc 31 ≤ℤ r .pvad .e
     e-low = omega (zarith, pvad-in .e-low)
 
-    pub speech : (pos (pairUnits (stepOf L-ACF lags scalvad s .next .thvad) + distanceUnits L-ACF (s .rvad) scalvad (s .normrvad))) <ℤ (energyUnits L-ACF (s .rvad) scalvad (s .normrvad))
-        → stepOf L-ACF lags scalvad s .vvad ≡ true
+    pub speech : (pos (pairUnits (answerFor d L-ACF lags scalvad s .next .thvad) + distanceUnits L-ACF (s .rvad) scalvad (s .normrvad))) <ℤ (energyUnits L-ACF (s .rvad) scalvad (s .normrvad))
+        → answerFor d L-ACF lags scalvad s .vvad ≡ true
     speech h =
         let t = pairUnits (r .next .thvad) in
         let i : pos (t + D * 2 ^ u) <ℤ (Z *ℤ pos (2 ^ u)) = rw (distance-units, energy-units) at h in
-        decision-by-worth L-ACF lags scalvad s fits shape none .1
+        decision-by-worth d L-ACF lags scalvad s fits shape none .1
         (worth-of-units (r .pvad) (r .next .thvad) e-low thvad-low (over (r .pvad) Z D u m-some scale from-below from-above t i))
 
-    pub quiet : (energyUnits L-ACF (s .rvad) scalvad (s .normrvad) +ℤ pos (distanceUnits L-ACF (s .rvad) scalvad (s .normrvad))) ≤ℤ (pos (pairUnits (stepOf L-ACF lags scalvad s .next .thvad)))
-        → stepOf L-ACF lags scalvad s .vvad ≡ false
+    pub quiet : (energyUnits L-ACF (s .rvad) scalvad (s .normrvad) +ℤ pos (distanceUnits L-ACF (s .rvad) scalvad (s .normrvad))) ≤ℤ (pos (pairUnits (answerFor d L-ACF lags scalvad s .next .thvad)))
+        → answerFor d L-ACF lags scalvad s .vvad ≡ false
     quiet h =
         let t = pairUnits (r .next .thvad) in
         let i : (Z *ℤ pos (2 ^ u) +ℤ pos (D * 2 ^ u)) ≤ℤ pos t = rw (distance-units, energy-units) at h in
         let k = under (r .pvad) Z D u m-some scale from-below from-above t i in
-        is-false (r .vvad) (λ y. omega (arith, units-of-worth (r .pvad) (r .next .thvad) e-low thvad-low (decision-by-worth L-ACF lags scalvad s fits shape none .0 y)))
+        is-false (r .vvad) (λ y. omega (arith, units-of-worth (r .pvad) (r .next .thvad) e-low thvad-low (decision-by-worth d L-ACF lags scalvad s fits shape none .0 y)))

@@ -1,10 +1,10 @@
--- What was decided where document 01 is silent (docs/DECISIONS.md) is never met: in an accepted frame from a valid state, clauses 6.1 to 6.9 use an
--- operation only where document 01 says what it gives. So a reader who would have decided otherwise has the same answers. A record for each clause,
--- in the clause's order, with a field for each division, each norm, each shift whose amount is not written out, each shift to the left of a short
--- variable, and each assignment of a long variable to a short one (`short`). 6.5, 6.7 and 6.8 have none of these. The amounts that the clauses write
--- out are below the width: 1, 11, 14, 15, 16 and 19 of 32 bits, 1, 3, 4 and 5 of 16. What document 01 decides itself is no field: that sums and
--- differences saturate, that a shift to the left of a long variable drops bits, that a shift by a negative amount is the opposite shift. Assumes
--- nothing.
+-- What was decided where document 01 is silent (docs/DECISIONS.md) is never met: in an accepted frame from a valid state, clauses 6.1 to 6.9 in both
+-- directions, and 6.10 on the downlink, use an operation only where document 01 says what it gives. So a reader who would have decided otherwise has
+-- the same answers. A record for each clause, in the clause's order, with a field for each division, each norm, each shift whose amount is not written
+-- out, each shift to the left of a short variable, and each assignment of a long variable to a short one (`short`). 6.5, 6.7 and 6.8 have none of
+-- these, nor have 6.10.1, 6.10.4 and 6.10.6. The amounts that the clauses write out are below the width: 1, 11, 14, 15, 16 and 19 of 32 bits, 1, 2, 3,
+-- 4 and 5 of 16. What document 01 decides itself is no field: that sums and differences saturate, that a shift to the left of a long variable drops
+-- bits, that a shift by a negative amount is the opposite shift. Assumes nothing.
 use mathlib.Core.Path.{_≡_}
 use mathlib.Core.Bool.{true, false}
 use mathlib.Core.List.{List}
@@ -13,7 +13,7 @@ use lib.IntN.{ℤ, pos, negℤ, _*ℤ_}
 use lib.ListN.{set, getD}
 use lib.Signed.{ltZ, leZ, _≤ℤ_, _<ℤ_}
 use Rattle.numbers.specs.Sum.{at}
-use Rattle.operations.specs.Operations.{sub, L-add, abs, short, norm, div, _<<_, _>>_, _<<ₛ_, _>>ₛ_}
+use Rattle.operations.specs.Operations.{sub, L-add, L-mult, abs, short, norm, div, _<<_, _>>_, _<<ₛ_, _>>ₛ_}
 use Rattle.rows.specs.Choice.{IF_THEN_ELSE_, eqZ}
 use Rattle.rows.specs.Rows.{row}
 use Rattle.pairs.specs.declared.Pair.{Pair}
@@ -23,14 +23,18 @@ use Rattle.energy.specs.declared.Energies.{Energies}
 use Rattle.averages.specs.Averages.{LAST-SACF, LAST-SAV0, inside, averageOf}
 use Rattle.averages.specs.declared.Averages.{Averages}
 use Rattle.predictor.specs.Schur as schur
-use Rattle.predictor.specs.Schur.{Arrays, KOf, leavesOf, turnedOf, innerFrom, vparOf}
+use Rattle.predictor.specs.Schur.{Arrays, KOf, leavesOf, turnedOf, innerFrom, reflectionOf, vparOf}
 use Rattle.predictor.specs.StepUp.{aav1Of}
 use Rattle.predictor.specs.Filter.{L-workOf, predictedOf}
 use Rattle.predictor.specs.declared.Filter.{Filter}
 use Rattle.spectrum.specs.Spectrum.{sav0Of, L-ΣpOf, sizeOf}
 use Rattle.threshold.specs.Threshold.{PTH, MARGIN, loweredOf}
+use Rattle.tone.specs.Window.{sofhOf}
+use Rattle.tone.specs.Autocorrelation.{smaxOf, scalautoOf, dynamicOf, L-acfhOf}
+use Rattle.tone.specs.Coefficients.{rcOf, a1Of, a2Of}
 use Rattle.state.specs.declared.State.{State}
 use Rattle.state.specs.Valid.{Between}
+use Rattle.detector.specs.Refusal.{Direction, down}
 
 -- a division that document 01 covers: of 0 by anything, 0 included; of equal positive numbers; of a smaller by a larger
 pub record Divides (x y : ℤ) : Type 0 where
@@ -62,8 +66,8 @@ pub record Clause-6-2 (scalvad : ℤ) (ptsacf ptsav0 : ℕ) : Type 0 where
   pub sacf-at : inside LAST-SACF ptsacf ≡ ptsacf
   pub sav0-at : inside LAST-SAV0 ptsav0 ≡ ptsav0
 
--- ---- 6.3.1. The recursion of crates/predictor/specs/Schur.antt with any division in the place of `div`. With `div` it is the clause's:
--- `same-recursion` in proofs/Covered.antt
+-- ---- 6.3.1, and 6.10.3, which is the same for the order 4. The recursion of crates/predictor/specs/Schur.antt with any division in the place of
+-- `div`. With `div` it is the clause's: `same-recursion` in proofs/Covered.antt
 module _ (division : ℤ → ℤ → ℤ) where
   unfoldable pub coefficientBy : ℤ → ℤ → ℤ
   coefficientBy P0 P1 = let q = division (abs P1) P0 in IF ltZ (pos 0) P1 THEN sub (pos 0) q ELSE q
@@ -80,17 +84,18 @@ module _ (division : ℤ → ℤ → ℤ) where
   unfoldable pub schurBy : ℕ → List ℤ → List ℤ
   schurBy N sacf = outerBy N N 1 (record { P = sacf; K = row 9 (KOf N sacf) }) (row 9 (λ i. pos 0))
 
-  unfoldable pub vparBy : List ℤ → List ℤ
-  vparBy L-av1 = IF eqZ (at L-av1 0) (pos 0) THEN row 9 (λ i. pos 0) ELSE schurBy 8 (row 9 (schur.sacfOf L-av1))
+  unfoldable pub reflectionBy : ℕ → List ℤ → List ℤ
+  reflectionBy N L-av1 = IF eqZ (at L-av1 0) (pos 0) THEN row 9 (λ i. pos 0) ELSE schurBy N (row 9 (schur.sacfOf L-av1))
 
-pub record Clause-6-3-1 (L-av1 : List ℤ) : Type 0 where
+-- for the order N. It is 8 here, and `reflectionOf 8` is `vparOf`; 6.10.3 has L_acfh for L_av1 and rc for vpar
+pub record Clause-6-3-1 (N : ℕ) (L-av1 : List ℤ) : Type 0 where
   -- `temp = norm( L_av1[0] )`, and `L_av1[k] << temp`
   pub temp : Norms (at L-av1 0)
   pub by-temp : Between (pos 0) (pos 30) (norm (at L-av1 0))
   -- `div( abs( P[1] ), P[0] )`, whatever P is where the recursion is not left
   pub vpar : (P0 P1 : ℤ) → leavesOf P0 P1 ≡ false → Divides (abs P1) P0
   -- so every division that answers as `div` does where document 01 covers it gives the same coefficients
-  pub any-division : (division : ℤ → ℤ → ℤ) → ((x y : ℤ) → Divides x y → division x y ≡ div x y) → vparBy division L-av1 ≡ vparOf L-av1
+  pub any-division : (division : ℤ → ℤ → ℤ) → ((x y : ℤ) → Divides x y → division x y ≡ div x y) → reflectionBy division N L-av1 ≡ reflectionOf N L-av1
 
 -- ---- 6.3.2: `16384 << 15` and `vpar[m] << 14`, of short numbers that become long, drop no bit
 pub record Clause-6-3-2 (vpar : List ℤ) : Type 0 where
@@ -151,8 +156,31 @@ pub record Clause-6-9 (oldlag : ℕ) (lags : List ℕ) : Type 0 where
   pub first : 40 ≤ oldlag
   pub each : (j : ℕ) → j < 4 → 40 ≤ getD lags j 0
 
--- ---- a whole frame
-module _ (L-ACF : List ℤ) (lags : List ℕ) (scalvad : ℤ) (s : State) where
+-- ---- 6.10.2, of the largest magnitude of the windowed samples
+pub record Clause-6-10-2 (smax : ℤ) : Type 0 where
+  -- `smax << 16`, of a short variable that becomes long, drops no bit
+  pub lifted : smax << pos 16 ≡ smax *ℤ pos 65536
+  -- `norm( smax << 16 )`. It is asked for where smax is not 0, and there it is of a positive number
+  pub norm-smax : Norms (smax << pos 16)
+  pub asked : eqZ smax (pos 0) ≡ false → pos 1 ≤ℤ (smax << pos 16)
+  -- `IF ( scalauto > 0 ) THEN temp = 16384 >> sub( scalauto,1 )`
+  pub by-scalauto : let scalauto = scalautoOf smax in pos 0 <ℤ scalauto → Between (pos 0) (pos 3) (sub scalauto (pos 1))
+
+-- ---- 6.10.5, of the filter coefficients
+pub record Clause-6-10-5 (a1 a2 : ℤ) : Type 0 where
+  -- `L_temp = a[2] << 16`, of a short variable that becomes long, drops no bit
+  pub lifted : a2 << pos 16 ≡ a2 *ℤ pos 65536
+  -- `temp = L_den >> 16`: `short` changes nothing
+  pub temp : let L-den = L-mult a1 a1 in short (L-den >> pos 16) ≡ L-den >> pos 16
+
+-- ---- 6.10, of the samples of a frame, with what each of its clauses hands on
+pub record Clause-6-10 (sof : List ℤ) : Type 0 where
+  pub c-6-10-2 : Clause-6-10-2 (smaxOf 160 (sofhOf sof))
+  pub c-6-10-3 : Clause-6-3-1 4 (row 5 (L-acfhOf (dynamicOf (sofhOf sof))))
+  pub c-6-10-5 : let rc = rcOf (dynamicOf (sofhOf sof)) in Clause-6-10-5 (a1Of rc) (a2Of rc)
+
+-- ---- a whole frame of the direction d
+module _ (d : Direction) (L-ACF : List ℤ) (lags : List ℕ) (scalvad : ℤ) (s : State) where
   -- what 6.1, 6.2 and 6.3 hand on
   abbrev pub energies : Energies
   energies = energyOf L-ACF scalvad (s .rvad) (s .normrvad)
@@ -166,11 +194,13 @@ module _ (L-ACF : List ℤ) (lags : List ℕ) (scalvad : ℤ) (s : State) where
   pub record Covered : Type 0 where
     pub c-6-1 : pos 1 ≤ℤ at L-ACF 0 → Clause-6-1 L-ACF scalvad (s .rvad)
     pub c-6-2 : Clause-6-2 scalvad (s .ptsacf) (s .ptsav0)
-    pub c-6-3-1 : Clause-6-3-1 (averages .av1)
+    pub c-6-3-1 : Clause-6-3-1 8 (averages .av1)
     pub c-6-3-2 : Clause-6-3-2 (vparOf (averages .av1))
     pub c-6-3-3 : Clause-6-3-3 (row 9 (aav1Of (vparOf (averages .av1))))
     pub c-6-4 : Clause-6-4 (averages .av0) (sizeOf (L-ΣpOf (filter .rav1) (averages .av0))) filter
     pub c-6-6 : greaterOf PTH (energies .acf0) ≡ false → Clause-6-6 (s .thvad) (energies .pvad)
     pub c-6-9 : Clause-6-9 (s .oldlag) lags
+    -- on the downlink, of its samples
+    pub c-6-10 : (sof : List ℤ) → d ≡ down sof → Clause-6-10 sof
     -- an all-zero frame: 6.1 exits at once, and 6.6 stops at the level
     pub all-zero : at L-ACF 0 ≡ pos 0 → greaterOf PTH (energies .acf0) ≡ true

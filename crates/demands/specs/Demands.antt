@@ -1,7 +1,7 @@
 -- The three demands on the detector, with the table, the clauses and the distance of document 01. Read this file first. Each record below is one
 -- demand, a statement about an answer and about what each lent buffer holds afterwards. proofs/Meets.antt and proofs/Lines.antt prove it of what
--- the functions promise for every input (their `ensures`): of `stepOf`, which is what `detector::step` answers, and of what `lines::read` and
--- `lines::write` answer and leave. That every call ends and that nothing overflows is what the toolchain proves of every function; a buffer that is
+-- the functions promise for every input (their `ensures`): of `answerFor`, which is what `detector::step` answers on the uplink and
+-- `detector::downlink` on the downlink, and of what `lines::read` and `lines::write` answer and leave. That every call ends and that nothing overflows is what the toolchain proves of every function; a buffer that is
 -- lent for reading only is not written by any call. Behind the demands stand document 01's whole case, from bytes to bytes, and that what was decided
 -- where document 01 is silent is never met. Distance, Case and Covered hold what these statements name. Beside this file: Sums (document 01's sums done
 -- by hand), Idle (its idle programs). Assumes nothing.
@@ -23,8 +23,8 @@ use Rattle.energy.specs.Exact.{exactOf}
 use Rattle.state.specs.declared.State.{State}
 use Rattle.state.specs.Valid.{validOf, Shaped}
 use Rattle.detector.specs.declared.Answer.{Answer}
-use Rattle.detector.specs.Refusal.{lengthsOk, scaleOk, acfOk, lagsOk}
-use Rattle.detector.specs.Step.{acceptedOf}
+use Rattle.detector.specs.Refusal.{Direction, lengthsOk, samplesOk, scaleOk, acfOk, lagsOk}
+use Rattle.detector.specs.Step.{acceptedOf, toneRead, toneKept}
 use Rattle.lines.specs.Line.{Frame, frameOf, formedOf}
 use Rattle.lines.specs.Answers.{readOf, acfAfter, lagsAfter, writeOf, lineAfter}
 use Rattle.lines.specs.declared.Heading.{Heading}
@@ -33,14 +33,18 @@ use Rattle.demands.specs.Case.{input, output}
 use Rattle.demands.specs.Covered.{Covered}
 use Rattle.demands.specs.Distance.{EOf, LOf, aOf, pOf, distanceOf, smallOf, energyUnits, distanceUnits, pairUnits}
 
--- ---- 1. "A bad buffer, scale, autocorrelation, lag or state is refused with the number in document 01. A refusal hands back the state it got."
-pub record Demand1 (L-ACF : List ℤ) (lags : List ℕ) (scalvad : ℤ) (s : State) (r : Answer) : Type 0 where
+-- ---- 1. "A bad buffer, scale, autocorrelation, lag or state is refused with the number in document 01. A refusal hands back the state it got." With
+-- request 5: a downlink frame with other than 160 samples is 8, checked directly after number 1. On the uplink `samplesOk` is true, and there is no 8
+pub record Demand1 (d : Direction) (L-ACF : List ℤ) (lags : List ℕ) (scalvad : ℤ) (s : State) (r : Answer) : Type 0 where
   pub number-1 : (r .refusal ≡ 1) ↔ (lengthsOk L-ACF lags ≡ false)
-  pub number-5 : (r .refusal ≡ 5) ↔ ((lengthsOk L-ACF lags ≡ true) × (validOf s ≡ false))
-  pub number-2 : (r .refusal ≡ 2) ↔ ((lengthsOk L-ACF lags ≡ true) × (validOf s ≡ true) × (scaleOk scalvad ≡ false))
-  pub number-3 : (r .refusal ≡ 3) ↔ ((lengthsOk L-ACF lags ≡ true) × (validOf s ≡ true) × (scaleOk scalvad ≡ true) × (acfOk L-ACF ≡ false))
-  pub number-4 : (r .refusal ≡ 4) ↔ ((lengthsOk L-ACF lags ≡ true) × (validOf s ≡ true) × (scaleOk scalvad ≡ true) × (acfOk L-ACF ≡ true) × (lagsOk lags ≡ false))
-  pub number-0 : (r .refusal ≡ 0) ↔ ((lengthsOk L-ACF lags ≡ true) × (validOf s ≡ true) × (scaleOk scalvad ≡ true) × (acfOk L-ACF ≡ true) × (lagsOk lags ≡ true))
+  pub number-8 : (r .refusal ≡ 8) ↔ ((lengthsOk L-ACF lags ≡ true) × (samplesOk d ≡ false))
+  pub number-5 : (r .refusal ≡ 5) ↔ ((lengthsOk L-ACF lags ≡ true) × (samplesOk d ≡ true) × (validOf s ≡ false))
+  pub number-2 : (r .refusal ≡ 2) ↔ ((lengthsOk L-ACF lags ≡ true) × (samplesOk d ≡ true) × (validOf s ≡ true) × (scaleOk scalvad ≡ false))
+  pub number-3 : (r .refusal ≡ 3) ↔ ((lengthsOk L-ACF lags ≡ true) × (samplesOk d ≡ true) × (validOf s ≡ true) × (scaleOk scalvad ≡ true) × (acfOk L-ACF ≡ false))
+  pub number-4 : (r .refusal ≡ 4)
+      ↔ ((lengthsOk L-ACF lags ≡ true) × (samplesOk d ≡ true) × (validOf s ≡ true) × (scaleOk scalvad ≡ true) × (acfOk L-ACF ≡ true) × (lagsOk lags ≡ false))
+  pub number-0 : (r .refusal ≡ 0)
+      ↔ ((lengthsOk L-ACF lags ≡ true) × (samplesOk d ≡ true) × (validOf s ≡ true) × (scaleOk scalvad ≡ true) × (acfOk L-ACF ≡ true) × (lagsOk lags ≡ true))
   pub no-flag : (r .refusal ≡ 0 → ⊥) → (r .vad ≡ false) × (r .vvad ≡ false)
   pub no-energy : (r .refusal ≡ 0 → ⊥) → (r .acf0 ≡ pair (pos 0) (pos 0)) × (r .pvad ≡ pair (pos 0) (pos 0))
   pub as-given : (r .refusal ≡ 0 → ⊥) → r .next ≡ s
@@ -70,9 +74,10 @@ pub record WriteDemand1 (f : Frame) (l : List ℕ) (n : ℕ) (l′ : List ℕ) :
   pub as-lent : (n ≡ 0 → ⊥) → l′ ≡ l
 
 -- ---- 2. "For every accepted frame the flags, both energies and the whole next state are those of clauses 6.1 to 6.9", and a step keeps validity.
--- Request 4 has mended the steps of document 01: 6.2 to 6.4 run for an all-zero frame, too.
-pub record Demand2 (L-ACF : List ℤ) (lags : List ℕ) (scalvad : ℤ) (s : State) (r : Answer) : Type 0 where
-  pub clauses : r .refusal ≡ 0 → r ≡ acceptedOf L-ACF lags scalvad s
+-- Request 4 has mended the steps of document 01: 6.2 to 6.4 run for an all-zero frame, too. Request 5: 6.6 reads `toneRead` and the next state has
+-- `toneKept`, on the uplink false both, and on the downlink the flag of the state and what 6.10 finds in the samples
+pub record Demand2 (d : Direction) (L-ACF : List ℤ) (lags : List ℕ) (scalvad : ℤ) (s : State) (r : Answer) : Type 0 where
+  pub clauses : r .refusal ≡ 0 → r ≡ acceptedOf (toneRead d s) (toneKept d) L-ACF lags scalvad s
   pub kept : validOf s ≡ true → validOf (r .next) ≡ true
   pub shaped : validOf s ≡ true → Shaped (r .next)
 
@@ -88,7 +93,7 @@ pub record WriteDemand2 (f : Frame) (n : ℕ) (l′ : List ℕ) : Type 0 where
 
 -- ---- 3. "The filter sum never saturates, and the reported energy lies within a stated distance of the exact one; so the raw decision is right
 -- outside that distance." For an accepted frame with energy: L_ACF[0] above 0. The filter and normrvad are those at entry; the threshold in force is
--- thvad after 6.6, which is the one that the answer hands on.
+-- thvad after 6.6, which is the one that the answer hands on. It is the same in both directions.
 pub record Demand3 (L-ACF : List ℤ) (scalvad : ℤ) (s : State) (r : Answer) : Type 0 where
   -- no partial sum of the filter saturates, so L is the plain sum
   pub partial-sums : (n : ℕ) → n ≤ 8 → L-sum n (λ k. L-mult (sacfOf L-ACF (suc k)) (at (s .rvad) (suc k))) ≡ sum n (λ k. at (s .rvad) (suc k) *ℤ sacfOf L-ACF (suc k) *ℤ pos 2)
@@ -109,7 +114,7 @@ pub record Demand3 (L-ACF : List ℤ) (scalvad : ℤ) (s : State) (r : Answer) :
 abbrev pub WholeCase : Type 0
 WholeCase = runOf input ≡ output
 
--- ---- what was decided where document 01 is silent is never met in an accepted frame: clause by clause, each division, norm, shift and assignment
--- is one that document 01 covers, so that who would have decided otherwise has the same answers
-abbrev pub NeverMet : List ℤ → List ℕ → ℤ → State → Answer → Type 0
-NeverMet L-ACF lags scalvad s r = r .refusal ≡ 0 → Covered L-ACF lags scalvad s
+-- ---- what was decided where document 01 is silent is never met in an accepted frame of either direction, in 6.1 to 6.10: clause by clause, each
+-- division, norm, shift and assignment is one that document 01 covers, so that who would have decided otherwise has the same answers
+abbrev pub NeverMet : Direction → List ℤ → List ℕ → ℤ → State → Answer → Type 0
+NeverMet d L-ACF lags scalvad s r = r .refusal ≡ 0 → Covered d L-ACF lags scalvad s

@@ -25,8 +25,8 @@ use Rattle.hangover.specs.Hangover.{burstOf, runDownOf, startedOf, hangoverOf}
 use Rattle.lags.specs.Lags.{smallagOf, countedOf}
 use Rattle.lags.specs.Worked as lags
 use Rattle.state.specs.Valid.{pointerOk, sacfWithin, sacfOk, sav0Ok, weightOf, rvadOk, thvadOk, lagOk, countsOk, validOf, resetOf}
-use Rattle.detector.specs.Refusal.{lengthsOk, scaleOk, acfOk, lagsOk, frameRefusalOf, refusalOf}
-use Rattle.detector.specs.Step.{acceptedOf, refusedOf, stepOf}
+use Rattle.detector.specs.Refusal.{lengthsOk, samplesOk, scaleOk, acfOk, lagsOk, frameRefusalOf, refusalOf}
+use Rattle.detector.specs.Step.{acceptedOf, refusedOf, toneRead, toneKept, answerFor, stepOf}
 use Rattle.demands.specs.Distance.{LOf, aOf, pOf}
 use Rattle.demands.specs.Worked.{acf, answer}
 
@@ -83,7 +83,7 @@ starred =
     ∷ []
 
 pub table : Holds starred
-unfolding starred bit beside hungOf operations.stated lags.stated aOf pOf LOf stepOf acceptedOf refusedOf refusalOf frameRefusalOf lengthsOk scaleOk acfOk lagsOk validOf countsOk pointerOk sacfOk sacfWithin sav0Ok rvadOk weightOf thvadOk lagOk within resetOf row all total IF_THEN_ELSE_ energyOf acf0Of pvadOf filterSumOf positive sacfOf L-sum add sub L-add L-mult norm leadingZeros shiftLeft shiftRight clamp wrap residue eqZ countedOf smallagOf hangoverOf startedOf burstOf runDownOf
+unfolding starred bit beside hungOf operations.stated lags.stated aOf pOf LOf answerFor samplesOk toneRead toneKept acceptedOf refusedOf refusalOf frameRefusalOf lengthsOk scaleOk acfOk lagsOk validOf countsOk pointerOk sacfOk sacfWithin sav0Ok rvadOk weightOf thvadOk lagOk within resetOf row all total IF_THEN_ELSE_ energyOf acf0Of pvadOf filterSumOf positive sacfOf L-sum add sub L-add L-mult norm leadingZeros shiftLeft shiftRight clamp wrap residue eqZ countedOf smallagOf hangoverOf startedOf burstOf runDownOf
 table = refl
 
 -- ---- "Scale 4 and lags 40, 120 accepted; 5, 39, 121 refused": the refusal number of 1, 0.. from reset with the scale, and the lag as its last
@@ -100,5 +100,5 @@ ends =
     ∷ []
 
 pub ends-table : Holds ends
-unfolding ends stepOf acceptedOf refusedOf refusalOf frameRefusalOf lengthsOk scaleOk acfOk lagsOk validOf countsOk pointerOk sacfOk sacfWithin sav0Ok rvadOk weightOf thvadOk lagOk within resetOf row all total IF_THEN_ELSE_
+unfolding ends answerFor samplesOk toneRead toneKept acceptedOf refusedOf refusalOf frameRefusalOf lengthsOk scaleOk acfOk lagsOk validOf countsOk pointerOk sacfOk sacfWithin sav0Ok rvadOk weightOf thvadOk lagOk within resetOf row all total IF_THEN_ELSE_
 ends-table = refl

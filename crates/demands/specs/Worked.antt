@@ -20,8 +20,8 @@ use Rattle.threshold.specs.Threshold.{adaptOf}
 use Rattle.hangover.specs.Hangover.{burstOf, runDownOf, startedOf, hangoverOf}
 use Rattle.state.specs.Valid.{pointerOk, sacfWithin, sacfOk, sav0Ok, weightOf, rvadOk, thvadOk, lagOk, countsOk, validOf, resetOf}
 use Rattle.detector.specs.declared.Answer.{Answer}
-use Rattle.detector.specs.Refusal.{lengthsOk, scaleOk, acfOk, lagsOk, frameRefusalOf, refusalOf}
-use Rattle.detector.specs.Step.{acceptedOf, stepOf}
+use Rattle.detector.specs.Refusal.{lengthsOk, samplesOk, scaleOk, acfOk, lagsOk, frameRefusalOf, refusalOf}
+use Rattle.detector.specs.Step.{acceptedOf, toneRead, toneKept, answerFor, stepOf}
 use Rattle.demands.specs.Distance.{EOf, energyUnits}
 
 -- L_ACF with only its first two numbers not 0
@@ -43,10 +43,10 @@ energy-1-0 = refl
 
 -- the frame of document 01's whole case is answered 0 0 0
 pub answer-1-0 : (answer (pos 1) (pos 0) .refusal ≡ 0) × (answer (pos 1) (pos 0) .vad ≡ false) × (answer (pos 1) (pos 0) .vvad ≡ false)
-unfolding stepOf acceptedOf refusalOf frameRefusalOf lengthsOk scaleOk acfOk lagsOk validOf countsOk pointerOk sacfOk sacfWithin sav0Ok rvadOk weightOf thvadOk lagOk within resetOf row all total IF_THEN_ELSE_ energyOf acf0Of pvadOf filterSumOf positive sacfOf L-sum add sub L-add L-mult norm leadingZeros shiftLeft shiftRight clamp wrap residue eqZ adaptOf greaterOf hangoverOf startedOf burstOf runDownOf
+unfolding answerFor samplesOk toneRead toneKept acceptedOf refusalOf frameRefusalOf lengthsOk scaleOk acfOk lagsOk validOf countsOk pointerOk sacfOk sacfWithin sav0Ok rvadOk weightOf thvadOk lagOk within resetOf row all total IF_THEN_ELSE_ energyOf acf0Of pvadOf filterSumOf positive sacfOf L-sum add sub L-add L-mult norm leadingZeros shiftLeft shiftRight clamp wrap residue eqZ adaptOf greaterOf hangoverOf startedOf burstOf runDownOf
 answer-1-0 = (refl, refl, refl)
 
 -- ---- 100000, 0, ..: the exact energy is 1200000, and 6.6 leaves the threshold at 800000. It is answered 0 1 1
 pub answer-100000-0 : (answer (pos 100000) (pos 0) .refusal ≡ 0) × (answer (pos 100000) (pos 0) .vad ≡ true) × (answer (pos 100000) (pos 0) .vvad ≡ true)
-unfolding stepOf acceptedOf refusalOf frameRefusalOf lengthsOk scaleOk acfOk lagsOk validOf countsOk pointerOk sacfOk sacfWithin sav0Ok rvadOk weightOf thvadOk lagOk within resetOf row all total IF_THEN_ELSE_ energyOf acf0Of pvadOf filterSumOf positive sacfOf L-sum add sub L-add L-mult norm leadingZeros shiftLeft shiftRight clamp wrap residue eqZ adaptOf greaterOf hangoverOf startedOf burstOf runDownOf
+unfolding answerFor samplesOk toneRead toneKept acceptedOf refusalOf frameRefusalOf lengthsOk scaleOk acfOk lagsOk validOf countsOk pointerOk sacfOk sacfWithin sav0Ok rvadOk weightOf thvadOk lagOk within resetOf row all total IF_THEN_ELSE_ energyOf acf0Of pvadOf filterSumOf positive sacfOf L-sum add sub L-add L-mult norm leadingZeros shiftLeft shiftRight clamp wrap residue eqZ adaptOf greaterOf hangoverOf startedOf burstOf runDownOf
 answer-100000-0 = (refl, refl, refl)

@@ -27,8 +27,8 @@ use Rattle.predictor.proofs.Autocorrelation.{work-exact}
 use Rattle.state.specs.declared.State.{State}
 use Rattle.state.specs.Valid.{Shaped}
 use Rattle.detector.specs.declared.Answer.{Answer}
-use Rattle.detector.specs.Refusal.{refusalOf}
-use Rattle.detector.specs.Step.{acceptedOf, stepOf}
+use Rattle.detector.specs.Refusal.{Direction, samplesOk, refusalOf}
+use Rattle.detector.specs.Step.{acceptedOf, toneRead, toneKept, answerFor}
 use Rattle.detector.proofs.Table.{step-accepted}
 use Rattle.detector.proofs.Keeps.{Numbers, Accepted, accepted, kind, filter-ok, incoming, sound, frames-was, frames-at-was, sums-was, sums-at-was}
 
@@ -36,9 +36,9 @@ use Rattle.detector.proofs.Keeps.{Numbers, Accepted, accepted, kind, fi
 pub work-unclipped : (L-av1 : List ℤ) (i : ℕ) → i ≤ 9 → let a = row 9 (aav1Of (vparOf L-av1)) in L-workOf a i ≡ sum (9 - i) (λ k. at a k *ℤ at a (k + i) *ℤ pos 2)
 work-unclipped L-av1 i h = work-exact (row 9 (aav1Of (vparOf L-av1))) (aav1-first (vparOf L-av1)) (aav1-small (vparOf L-av1)) i h
 
-module _ (L-ACF : List ℤ) (lags : List ℕ) (scalvad : ℤ) (s : State) (fits : Numbers L-ACF) (shape : Shaped s) (none : refusalOf L-ACF lags scalvad s ≡ 0) where
+module _ (d : Direction) (L-ACF : List ℤ) (lags : List ℕ) (scalvad : ℤ) (s : State) (fits : Numbers L-ACF) (shape : Shaped s) (none : refusalOf (samplesOk d) L-ACF lags scalvad s ≡ 0) where
   ok : Accepted L-ACF lags scalvad s
-  ok = accepted L-ACF lags scalvad s none
+  ok = accepted (samplesOk d) L-ACF lags scalvad s none
 
   -- ---- 6.1, of a frame with energy: each running sum is exact, and so is the filter sum
   pub filter-unclipped : Frame L-ACF → (n : ℕ) → n ≤ 8 → L-sum n (λ k. L-mult (sacfOf L-ACF (suc k)) (at (s .rvad) (suc k))) ≡ sum n (λ k. at (s .rvad) (suc k) *ℤ sacfOf L-ACF (suc k) *ℤ pos 2)
@@ -72,10 +72,10 @@ module _ (L-ACF : List ℤ) (lags : List ℕ) (scalvad : ℤ) (s : State) (fits 
   abbrev ByWorth : Answer → Type 0
   ByWorth r = (r .vvad ≡ true) ↔ (worthOf (r .next .thvad) < worthOf (r .pvad))
 
-  accepted-by-worth : ByWorth (acceptedOf L-ACF lags scalvad s)
+  accepted-by-worth : ByWorth (acceptedOf (toneRead d s) (toneKept d) L-ACF lags scalvad s)
   unfolding acceptedOf
-  accepted-by-worth = worth-order _ _ pvad-valued (inl (normalised (pos 64) (sound L-ACF lags scalvad s fits shape ok _ .thvad-in)))
+  accepted-by-worth = worth-order _ _ pvad-valued (inl (normalised (pos 64) (sound L-ACF lags scalvad s fits shape ok _ _ .thvad-in)))
 
   -- the raw decision is speech exactly if pvad is worth more than the threshold in force
-  pub decision-by-worth : ByWorth (stepOf L-ACF lags scalvad s)
-  decision-by-worth = subst ByWorth (sym (step-accepted L-ACF lags scalvad s none)) accepted-by-worth
+  pub decision-by-worth : ByWorth (answerFor d L-ACF lags scalvad s)
+  decision-by-worth = subst ByWorth (sym (step-accepted d L-ACF lags scalvad s none)) accepted-by-worth

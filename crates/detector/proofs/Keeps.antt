@@ -1,4 +1,4 @@
--- A step from a valid state gives a valid state, whatever the frame is: a refused one hands the state back, and an accepted one runs clauses that
+-- A step from a valid state gives a valid state, whatever the frame and its direction are: a refused one hands the state back, and an accepted one runs clauses that
 -- each keep their part. `Numbers` is what the type of the lent numbers says by itself, as `Shaped` is what the type State says. Assumes nothing.
 use mathlib.Core.Path.{_≡_, refl, sym, ap, _∙_, subst}
 use mathlib.Core.Bool.{Bool, true, false}
@@ -38,8 +38,8 @@ use Rattle.state.specs.Valid.{validOf, weightOf, lagOk, Between, Valid, Shaped}
 use Rattle.state.proofs.Facts.{valid, valid-back, between, le-fact, lag}
 use Rattle.detector.specs.declared.Middle.{Middle}
 use Rattle.detector.specs.declared.Answer.{Answer}
-use Rattle.detector.specs.Refusal.{scaleOk, acfOk, lagsOk, refusalOf}
-use Rattle.detector.specs.Step.{spectralOf, acceptedOf, stepOf}
+use Rattle.detector.specs.Refusal.{Direction, samplesOk, scaleOk, acfOk, lagsOk, refusalOf}
+use Rattle.detector.specs.Step.{spectralOf, acceptedOf, toneRead, toneKept, answerFor}
 use Rattle.detector.proofs.Table.{number-0, step-accepted, refused-answer, nine, four}
 
 -- the lent numbers are of 32 bits
@@ -84,26 +84,26 @@ scale-in : (scalvad : ℤ) → scaleOk scalvad ≡ true → Between (pos 0) (pos
 unfolding scaleOk
 scale-in scalvad t = between (pos 0) (pos 4) scalvad t
 
-pub accepted : (L-ACF : List ℤ) (lags : List ℕ) (scalvad : ℤ) (s : State) → refusalOf L-ACF lags scalvad s ≡ 0 → Accepted L-ACF lags scalvad s
-accepted L-ACF lags scalvad s e =
-    let h = number-0 L-ACF lags scalvad s .0 e in
+pub accepted : (samples : Bool) (L-ACF : List ℤ) (lags : List ℕ) (scalvad : ℤ) (s : State) → refusalOf samples L-ACF lags scalvad s ≡ 0 → Accepted L-ACF lags scalvad s
+accepted samples L-ACF lags scalvad s e =
+    let h = number-0 samples L-ACF lags scalvad s .0 e in
     record {
       nine = nine L-ACF lags (h .0);
       four = four L-ACF lags (h .0);
-      state = valid s (h .1);
-      scale = scale-in scalvad (h .2);
-      first = acf-first L-ACF (h .3);
-      largest = acf-largest L-ACF (h .3);
-      each-lag = lags-in lags (four L-ACF lags (h .0)) (h .4);
+      state = valid s (h .2);
+      scale = scale-in scalvad (h .3);
+      first = acf-first L-ACF (h .4);
+      largest = acf-largest L-ACF (h .4);
+      each-lag = lags-in lags (four L-ACF lags (h .0)) (h .5);
     }
 
 -- an accepted frame leaves pointers that name frames of their histories, also where its numbers are not known to be of 32 bits
-pub next-pointers : (L-ACF : List ℤ) (lags : List ℕ) (scalvad : ℤ) (s : State) → refusalOf L-ACF lags scalvad s ≡ 0
-    → Pointer LAST-SACF (stepOf L-ACF lags scalvad s .next .ptsacf) × Pointer LAST-SAV0 (stepOf L-ACF lags scalvad s .next .ptsav0)
+pub next-pointers : (d : Direction) (L-ACF : List ℤ) (lags : List ℕ) (scalvad : ℤ) (s : State) → refusalOf (samplesOk d) L-ACF lags scalvad s ≡ 0
+    → Pointer LAST-SACF (answerFor d L-ACF lags scalvad s .next .ptsacf) × Pointer LAST-SAV0 (answerFor d L-ACF lags scalvad s .next .ptsav0)
 unfolding acceptedOf spectralOf
-next-pointers L-ACF lags scalvad s e =
-    let v = accepted L-ACF lags scalvad s e .state in
-    rw (step-accepted L-ACF lags scalvad s e, average-inside L-ACF scalvad (s .sacf) (s .ptsacf) (s .sav0) (s .ptsav0) (v .ptsacf-last) (v .ptsav0-last)) (
+next-pointers d L-ACF lags scalvad s e =
+    let v = accepted (samplesOk d) L-ACF lags scalvad s e .state in
+    rw (step-accepted d L-ACF lags scalvad s e, average-inside L-ACF scalvad (s .sacf) (s .ptsacf) (s .sav0) (s .ptsav0) (v .ptsacf-last) (v .ptsav0-last)) (
       next-pointer LAST-SACF (s .ptsacf) refl (record { within = v .ptsacf-last; nines = v .ptsacf-nines }),
       next-pointer LAST-SAV0 (s .ptsav0) refl (record { within = v .ptsav0-last; nines = v .ptsav0-nines }),
     )
@@ -194,19 +194,19 @@ module _ (L-ACF : List ℤ) (lags : List ℕ) (scalvad : ℤ) (s : State) (fits 
     abbrev pub was : Kept
     was = record { thvad = s .thvad; adaptcount = s .adaptcount; rvad = s .rvad; normrvad = s .normrvad }
 
-    -- 6.6 to 6.8: what they leave is valid whatever ptch is
-    abbrev pub k : Bool → Kept
-    k ptch = adaptOf (e .acf0) (e .pvad) ptch (m .stat) (m .rav1) (m .normrav1) was
+    -- 6.6 to 6.8: what they leave is valid whatever ptch and tone are
+    abbrev pub k : Bool → Bool → Kept
+    k ptch tone = adaptOf (e .acf0) (e .pvad) ptch (m .stat) tone (m .rav1) (m .normrav1) was
 
-    abbrev pub vvad : Bool → Bool
-    vvad ptch = greaterOf (e .pvad) (k ptch .thvad)
+    abbrev pub vvad : Bool → Bool → Bool
+    vvad ptch tone = greaterOf (e .pvad) (k ptch tone .thvad)
 
     pub moving : Moving m
     moving = spectral-keeps s shape v L-ACF scalvad incoming
 
-    pub sound : (ptch : Bool) → Sound (k ptch)
-    sound ptch =
-        adapt-keeps (e .acf0) (e .pvad) ptch (m .stat) (m .rav1) (m .normrav1) was
+    pub sound : (ptch tone : Bool) → Sound (k ptch tone)
+    sound ptch tone =
+        adapt-keeps (e .acf0) (e .pvad) ptch (m .stat) tone (m .rav1) (m .normrav1) was
         (record {
           thvad-in = record { e-low = v .exponent .from; e-high = v .exponent .to; mantissa = record { low = v .mantissa .from; high = v .mantissa .to } };
           count-low = v .adaptcount .from;
@@ -214,18 +214,18 @@ module _ (L-ACF : List ℤ) (lags : List ℕ) (scalvad : ℤ) (s : State) (fits 
         })
         (energy-loud L-ACF scalvad (s .rvad) (s .normrvad) kind (ok .scale .from) (ok .scale .to) filter-ok (v .normrvad .from) (v .normrvad .to))
 
-    filtering : (ptch : Bool) → Filtering (k ptch .rvad) (k ptch .normrvad)
-    filtering ptch =
-        adapt-filter (e .acf0) (e .pvad) ptch (m .stat) (m .rav1) (m .normrav1) was Filtering (filter-was s shape v) (moving .filter)
+    filtering : (ptch tone : Bool) → Filtering (k ptch tone .rvad) (k ptch tone .normrvad)
+    filtering ptch tone =
+        adapt-filter (e .acf0) (e .pvad) ptch (m .stat) tone (m .rav1) (m .normrav1) was Filtering (filter-was s shape v) (moving .filter)
 
-    counts : (ptch : Bool) → Counts (hangoverOf (vvad ptch) (s .burstcount) (s .hangcount) .burstcount) (hangoverOf (vvad ptch) (s .burstcount) (s .hangcount) .hangcount)
-    counts ptch =
-        hangover-keeps (vvad ptch) (s .burstcount) (s .hangcount)
+    counts : (ptch tone : Bool) → let h = hangoverOf (vvad ptch tone) (s .burstcount) (s .hangcount) in Counts (h .burstcount) (h .hangcount)
+    counts ptch tone =
+        hangover-keeps (vvad ptch tone) (s .burstcount) (s .hangcount)
         (record { burst-lo = v .burstcount .from; burst-hi = v .burstcount .to; hang-lo = v .hangcount .from; hang-hi = v .hangcount .to })
 
-    accepted-valid : Valid (acceptedOf L-ACF lags scalvad s .next)
+    accepted-valid : (tone found : Bool) → Valid (acceptedOf tone found L-ACF lags scalvad s .next)
     unfolding acceptedOf
-    accepted-valid =
+    accepted-valid tone found =
         record {
           ptsacf-last = moving .frames-at .within;
           ptsacf-nines = moving .frames-at .nines;
@@ -234,38 +234,36 @@ module _ (L-ACF : List ℤ) (lags : List ℕ) (scalvad : ℤ) (s : State) (fits 
           sacf-first = (moving .frames .firsts 0 refl, moving .frames .firsts 9 refl, moving .frames .firsts 18 refl);
           sacf-each = λ i. record { from = moving .frames .each i .0; to = moving .frames .each i .1 };
           sav0-first = (moving .sums .firsts 0 refl, moving .sums .firsts 9 refl, moving .sums .firsts 18 refl, moving .sums .firsts 27 refl);
-          rvad-first = filtering _ .first;
-          rvad-weight = filtering _ .weight;
-          normrvad = filtering _ .norm;
-          mantissa = record { from = sound _ .thvad-in .mantissa .low; to = sound _ .thvad-in .mantissa .high };
-          exponent = record { from = sound _ .thvad-in .e-low; to = sound _ .thvad-in .e-high };
-          adaptcount = record { from = sound _ .count-low; to = sound _ .count-high };
-          burstcount = record { from = counts _ .burst-lo; to = counts _ .burst-hi };
-          hangcount = record { from = counts _ .hang-lo; to = counts _ .hang-hi };
+          rvad-first = filtering _ tone .first;
+          rvad-weight = filtering _ tone .weight;
+          normrvad = filtering _ tone .norm;
+          mantissa = record { from = sound _ tone .thvad-in .mantissa .low; to = sound _ tone .thvad-in .mantissa .high };
+          exponent = record { from = sound _ tone .thvad-in .e-low; to = sound _ tone .thvad-in .e-high };
+          adaptcount = record { from = sound _ tone .count-low; to = sound _ tone .count-high };
+          burstcount = record { from = counts _ tone .burst-lo; to = counts _ tone .burst-hi };
+          hangcount = record { from = counts _ tone .hang-lo; to = counts _ tone .hang-hi };
           oldlagcount = record { from = omega zarith; to = omega (zarith, lagcount-le (s .oldlag) lags, ok .four) };
           veryoldlagcount = v .oldlagcount;
           oldlag = ok .each-lag 3 (omega arith);
         }
 
-    accepted-shape : Shaped (acceptedOf L-ACF lags scalvad s .next)
+    accepted-shape : (tone found : Bool) → Shaped (acceptedOf tone found L-ACF lags scalvad s .next)
     unfolding acceptedOf
-    accepted-shape = record { rvad = filtering _ .size; sacf = moving .frames .size; sav0 = moving .sums .size }
-
-  abbrev number : ℕ
-  number = refusalOf L-ACF lags scalvad s
+    accepted-shape tone found = record { rvad = filtering _ tone .size; sacf = moving .frames .size; sav0 = moving .sums .size }
 
   abbrev Good : State → Type 0
   Good t = (validOf t ≡ true) × Shaped t
 
   -- the next state is valid, and has the shape of a state
-  pub step-keeps : validOf s ≡ true → Good (stepOf L-ACF lags scalvad s .next)
-  step-keeps t =
-      either (Good (stepOf L-ACF lags scalvad s .next)) (eqb number 0)
+  pub step-keeps : (d : Direction) → validOf s ≡ true → Good (answerFor d L-ACF lags scalvad s .next)
+  step-keeps d t =
+      let number = refusalOf (samplesOk d) L-ACF lags scalvad s in
+      either (Good (answerFor d L-ACF lags scalvad s .next)) (eqb number 0)
       (λ h.
       let n : number ≡ 0 = eqb-true number 0 h in
-      let ok = accepted L-ACF lags scalvad s n in
-      subst (λ (r : Answer). Good (r .next)) (sym (step-accepted L-ACF lags scalvad s n))
-      (valid-back (acceptedOf L-ACF lags scalvad s .next) (accepted-valid ok), accepted-shape ok))
+      let ok = accepted (samplesOk d) L-ACF lags scalvad s n in
+      subst (λ (r : Answer). Good (r .next)) (sym (step-accepted d L-ACF lags scalvad s n))
+      (valid-back (acceptedOf (toneRead d s) (toneKept d) L-ACF lags scalvad s .next) (accepted-valid ok _ _), accepted-shape ok _ _))
       (λ h.
       let n : number ≡ 0 → ⊥ = eqb-false number 0 h in
-      subst Good (sym (refused-answer L-ACF lags scalvad s n .as-given)) (t, shape))
+      subst Good (sym (refused-answer d L-ACF lags scalvad s n .as-given)) (t, shape))

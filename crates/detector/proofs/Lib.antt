@@ -4,3 +4,4 @@ pub mod Frames
 pub mod Run
 pub mod Sentence
 pub mod Silence
+pub mod Flags

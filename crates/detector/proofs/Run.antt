@@ -27,14 +27,14 @@ pub record Hangs (s : State) (r : Answer) : Type 0 where
   pub burst : r .next .burstcount ≡ hangoverOf (r .vvad) (s .burstcount) (s .hangcount) .burstcount
   pub hang : r .next .hangcount ≡ hangoverOf (r .vvad) (s .burstcount) (s .hangcount) .hangcount
 
-accepted-hangs : (L-ACF : List ℤ) (lags : List ℕ) (scalvad : ℤ) (s : State) → Hangs s (acceptedOf L-ACF lags scalvad s)
+accepted-hangs : (tone found : Bool) (L-ACF : List ℤ) (lags : List ℕ) (scalvad : ℤ) (s : State) → Hangs s (acceptedOf tone found L-ACF lags scalvad s)
 unfolding acceptedOf
-accepted-hangs L-ACF lags scalvad s = record { flag = refl; burst = refl; hang = refl }
+accepted-hangs tone found L-ACF lags scalvad s = record { flag = refl; burst = refl; hang = refl }
 
 pub step-hangs : (s : State) (f : Frame) → answerTo s f .refusal ≡ 0 → Hangs s (answerTo s f)
 unfolding answerTo
 step-hangs s f e =
-    subst (Hangs s) (sym (step-accepted (f .L-ACF) (f .lags) (f .scalvad) s (accepted-0 (f .L-ACF) (f .lags) (f .scalvad) s e))) (accepted-hangs (f .L-ACF) (f .lags) (f .scalvad) s)
+    subst (Hangs s) (sym (step-accepted (f .direction) (f .L-ACF) (f .lags) (f .scalvad) s (accepted-0 (f .direction) (f .L-ACF) (f .lags) (f .scalvad) s e))) (accepted-hangs _ _ (f .L-ACF) (f .lags) (f .scalvad) s)
 
 -- ---- the counts of a state are those of 6.8 over the raw flags of the frames before it
 pub record Counted (raws : List Bool) (s : State) : Type 0 where
@@ -101,7 +101,7 @@ module _ (s : State) (f : Frame) (fs : List Frame) where
 -- what is refused leaves the state
 pub as-given : (s : State) (f : Frame) → (answerTo s f .refusal ≡ 0 → ⊥) → answerTo s f .next ≡ s
 unfolding answerTo
-as-given s f h = refused-answer (f .L-ACF) (f .lags) (f .scalvad) s (λ z. h (accepted-number (f .L-ACF) (f .lags) (f .scalvad) s z)) .as-given
+as-given s f h = refused-answer (f .direction) (f .L-ACF) (f .lags) (f .scalvad) s (λ z. h (accepted-number (f .direction) (f .L-ACF) (f .lags) (f .scalvad) s z)) .as-given
 
 -- ---- what each accepted frame keeps, of the answers so far and the state, holds after any frames
 module _ (P : List Answer → State → Type 0) (next : (rs : List Answer) (s : State) (f : Frame) → P rs s → answerTo s f .refusal ≡ 0 → P (rs ++ (answerTo s f ∷ [])) (answerTo s f .next)) where

@@ -32,7 +32,7 @@ use Rattle.energy.proofs.Range.{energy-silent}
 use Rattle.averages.specs.Averages.{LAST-SACF, LAST-SAV0, inside, L-tempOf, L-av0Of, storedOf, L-av1Of, nextOf, averageOf}
 use Rattle.averages.specs.declared.Averages.{Averages}
 use Rattle.averages.proofs.Pointers.{Pointer, averagesBy, average-inside}
-use Rattle.predictor.specs.Schur.{vparOf}
+use Rattle.predictor.specs.Schur.{reflectionOf, vparOf}
 use Rattle.predictor.specs.StepUp.{raisedOf, L-coefOf, aav1Of}
 use Rattle.predictor.specs.Filter.{L-workOf, whitenedOf, predictedOf}
 use Rattle.predictor.specs.declared.Filter.{Filter}
@@ -44,24 +44,24 @@ use Rattle.hangover.specs.Hangover.{hangoverOf}
 use Rattle.hangover.proofs.Kept.{quiet-flag}
 use Rattle.state.specs.declared.State.{State}
 use Rattle.detector.specs.declared.Answer.{Answer}
-use Rattle.detector.specs.Refusal.{refusalOf}
-use Rattle.detector.specs.Step.{spectralOf, acceptedOf, stepOf}
+use Rattle.detector.specs.Refusal.{Direction, samplesOk, refusalOf}
+use Rattle.detector.specs.Step.{spectralOf, acceptedOf, toneRead, toneKept, answerFor}
 use Rattle.detector.specs.Run.{Frame, answerTo, stateFrom}
 use Rattle.detector.specs.Silence.{zeros, nothing, SilentFrame, SilentFrames, NoSpectrums, Silence, Forgotten, EightForget, SteadyNext}
 use Rattle.detector.proofs.Table.{accepted-0, step-accepted}
 use Rattle.detector.proofs.Keeps.{Accepted, accepted}
 
 -- 6.6 of silence: the level goes before all that 6.2 to 6.4 find
-at-level : (ptch stat : Bool) (rav1 : List ℤ) (normrav1 : ℤ) (k : Kept) → adaptOf silent silent ptch stat rav1 normrav1 k ≡ record { thvad = PLEV; adaptcount = k .adaptcount; rvad = k .rvad; normrvad = k .normrvad }
+at-level : (ptch stat tone : Bool) (rav1 : List ℤ) (normrav1 : ℤ) (k : Kept) → adaptOf silent silent ptch stat tone rav1 normrav1 k ≡ record { thvad = PLEV; adaptcount = k .adaptcount; rvad = k .rvad; normrvad = k .normrvad }
 unfolding adaptOf
-at-level ptch stat rav1 normrav1 k = by-yes _ _ (sym (above PTH silent refl))
+at-level ptch stat tone rav1 normrav1 k = by-yes _ _ (sym (above PTH silent refl))
 
-module _ (L-ACF : List ℤ) (lags : List ℕ) (scalvad : ℤ) (s : State) (ok : refusalOf L-ACF lags scalvad s ≡ 0) (all-zero : at L-ACF 0 ≡ pos 0) where
+module _ (d : Direction) (L-ACF : List ℤ) (lags : List ℕ) (scalvad : ℤ) (s : State) (ok : refusalOf (samplesOk d) L-ACF lags scalvad s ≡ 0) (all-zero : at L-ACF 0 ≡ pos 0) where
   fine : Accepted L-ACF lags scalvad s
-  fine = accepted L-ACF lags scalvad s ok
+  fine = accepted (samplesOk d) L-ACF lags scalvad s ok
 
-  is : stepOf L-ACF lags scalvad s ≡ acceptedOf L-ACF lags scalvad s
-  is = step-accepted L-ACF lags scalvad s ok
+  is : answerFor d L-ACF lags scalvad s ≡ acceptedOf (toneRead d s) (toneKept d) L-ACF lags scalvad s
+  is = step-accepted d L-ACF lags scalvad s ok
 
   -- 6.1
   abbrev e : Energies
@@ -90,32 +90,32 @@ module _ (L-ACF : List ℤ) (lags : List ℕ) (scalvad : ℤ) (s : State) (ok : 
   abbrev comparedBy : Averages → Compared
   comparedBy a = compareOf (a .av0) (filterBy a .rav1) (filterBy a .normrav1) (s .lastdm)
 
-  -- 6.6, with any stat and any filter
+  -- 6.6, with any stat, tone and filter
   abbrev was : Kept
   was = record { thvad = s .thvad; adaptcount = s .adaptcount; rvad = s .rvad; normrvad = s .normrvad }
 
-  left : (ptch stat : Bool) (rav1 : List ℤ) (normrav1 : ℤ)
-      → adaptOf (e .acf0) (e .pvad) ptch stat rav1 normrav1 was ≡ record { thvad = PLEV; adaptcount = s .adaptcount; rvad = s .rvad; normrvad = s .normrvad }
-  left ptch stat rav1 normrav1 = ap (λ (x : Energies). adaptOf (x .acf0) (x .pvad) ptch stat rav1 normrav1 was) energies ∙ at-level ptch stat rav1 normrav1 was
+  left : (ptch stat tone : Bool) (rav1 : List ℤ) (normrav1 : ℤ)
+      → adaptOf (e .acf0) (e .pvad) ptch stat tone rav1 normrav1 was ≡ record { thvad = PLEV; adaptcount = s .adaptcount; rvad = s .rvad; normrvad = s .normrvad }
+  left ptch stat tone rav1 normrav1 = ap (λ (x : Energies). adaptOf (x .acf0) (x .pvad) ptch stat tone rav1 normrav1 was) energies ∙ at-level ptch stat tone rav1 normrav1 was
 
   -- 6.7 and 6.8
-  raw : (ptch stat : Bool) (rav1 : List ℤ) (normrav1 : ℤ) → greaterOf (e .pvad) (adaptOf (e .acf0) (e .pvad) ptch stat rav1 normrav1 was .thvad) ≡ false
-  raw ptch stat rav1 normrav1 =
-      ap₂ (λ (x : Energies) (k : Kept). greaterOf (x .pvad) (k .thvad)) energies (left ptch stat rav1 normrav1) ∙ sym (below silent PLEV refl)
+  raw : (ptch stat tone : Bool) (rav1 : List ℤ) (normrav1 : ℤ) → greaterOf (e .pvad) (adaptOf (e .acf0) (e .pvad) ptch stat tone rav1 normrav1 was .thvad) ≡ false
+  raw ptch stat tone rav1 normrav1 =
+      ap₂ (λ (x : Energies) (k : Kept). greaterOf (x .pvad) (k .thvad)) energies (left ptch stat tone rav1 normrav1) ∙ sym (below silent PLEV refl)
 
-  sent : (ptch stat : Bool) (rav1 : List ℤ) (normrav1 : ℤ)
-      → hangoverOf (greaterOf (e .pvad) (adaptOf (e .acf0) (e .pvad) ptch stat rav1 normrav1 was .thvad)) (s .burstcount) (s .hangcount) .vad ≡ leZ (pos 0) (s .hangcount)
-  sent ptch stat rav1 normrav1 = ap (λ (b : Bool). hangoverOf b (s .burstcount) (s .hangcount) .vad) (raw ptch stat rav1 normrav1) ∙ quiet-flag (s .burstcount) (s .hangcount)
+  sent : (ptch stat tone : Bool) (rav1 : List ℤ) (normrav1 : ℤ)
+      → hangoverOf (greaterOf (e .pvad) (adaptOf (e .acf0) (e .pvad) ptch stat tone rav1 normrav1 was .thvad)) (s .burstcount) (s .hangcount) .vad ≡ leZ (pos 0) (s .hangcount)
+  sent ptch stat tone rav1 normrav1 = ap (λ (b : Bool). hangoverOf b (s .burstcount) (s .hangcount) .vad) (raw ptch stat tone rav1 normrav1) ∙ quiet-flag (s .burstcount) (s .hangcount)
 
-  vvad-is : stepOf L-ACF lags scalvad s .vvad ≡ false
+  vvad-is : answerFor d L-ACF lags scalvad s .vvad ≡ false
   unfolding acceptedOf
-  vvad-is = ap (λ (r : Answer). r .vvad) is ∙ raw _ _ _ _
+  vvad-is = ap (λ (r : Answer). r .vvad) is ∙ raw _ _ _ _ _
 
-  vad-is : stepOf L-ACF lags scalvad s .vad ≡ leZ (pos 0) (s .hangcount)
+  vad-is : answerFor d L-ACF lags scalvad s .vad ≡ leZ (pos 0) (s .hangcount)
   unfolding acceptedOf
-  vad-is = ap (λ (r : Answer). r .vad) is ∙ sent _ _ _ _
+  vad-is = ap (λ (r : Answer). r .vad) is ∙ sent _ _ _ _ _
 
-  whole : SilentFrame L-ACF lags scalvad s
+  whole : SilentFrame d L-ACF lags scalvad s
   unfolding acceptedOf spectralOf
   whole =
       record {
@@ -127,13 +127,13 @@ module _ (L-ACF : List ℤ) (lags : List ℕ) (scalvad : ℤ) (s : State) (ok : 
         ptsav0 = ap (λ (r : Answer). r .next .ptsav0) is ∙ ap (λ (a : Averages). a .ptsav0) averaged;
         lastdm = ap (λ (r : Answer). r .next .lastdm) is ∙ ap (λ (a : Averages). comparedBy a .dm) averaged;
         stat = ap (λ (r : Answer). r .stat) is ∙ ap (λ (a : Averages). comparedBy a .stat) averaged;
-        thvad = ap (λ (r : Answer). r .next .thvad) is ∙ ap (λ (k : Kept). k .thvad) (left _ _ _ _);
-        adaptcount = ap (λ (r : Answer). r .next .adaptcount) is ∙ ap (λ (k : Kept). k .adaptcount) (left _ _ _ _);
-        rvad = ap (λ (r : Answer). r .next .rvad) is ∙ ap (λ (k : Kept). k .rvad) (left _ _ _ _);
-        normrvad = ap (λ (r : Answer). r .next .normrvad) is ∙ ap (λ (k : Kept). k .normrvad) (left _ _ _ _);
+        thvad = ap (λ (r : Answer). r .next .thvad) is ∙ ap (λ (k : Kept). k .thvad) (left _ _ _ _ _);
+        adaptcount = ap (λ (r : Answer). r .next .adaptcount) is ∙ ap (λ (k : Kept). k .adaptcount) (left _ _ _ _ _);
+        rvad = ap (λ (r : Answer). r .next .rvad) is ∙ ap (λ (k : Kept). k .rvad) (left _ _ _ _ _);
+        normrvad = ap (λ (r : Answer). r .next .normrvad) is ∙ ap (λ (k : Kept). k .normrvad) (left _ _ _ _ _);
         vvad = vvad-is;
         vad = vad-is;
-        any-reading = λ m. (vvad-is ∙ sym (raw _ (m .stat) (m .rav1) (m .normrav1)), vad-is ∙ sym (sent _ (m .stat) (m .rav1) (m .normrav1)));
+        any-reading = λ m. (vvad-is ∙ sym (raw _ (m .stat) _ (m .rav1) (m .normrav1)), vad-is ∙ sym (sent _ (m .stat) _ (m .rav1) (m .normrav1)));
       }
 
 -- the flags of an all-zero frame are the hangover's alone, and the frame enters the histories
@@ -147,7 +147,7 @@ flat = refl
 
 -- an average that begins with 0
 pub no-spectrum : NoSpectrums
-unfolding vparOf predictedOf sav0Of row
+unfolding vparOf reflectionOf predictedOf sav0Of row
 no-spectrum L-av z =
     let none : vparOf L-av ≡ zeros = by-yes _ _ (eqZ-yes z) in
     record { vpar = none; filter = ap (λ (v : List ℤ). whitenedOf (row 9 (aav1Of v))) none ∙ flat; sav0 = λ i. by-yes _ _ (eqZ-yes z) }
@@ -176,7 +176,7 @@ hushes (suc n) h = hushes n (hush h)
 one-more : (s : State) (f : Frame) → answerTo s f .refusal ≡ 0 → at (f .L-ACF) 0 ≡ pos 0 → heldOf (answerTo s f .next) ≡ hush (heldOf s)
 unfolding answerTo hush
 one-more s f e z =
-    let q = silent-frame (f .L-ACF) (f .lags) (f .scalvad) s (accepted-0 (f .L-ACF) (f .lags) (f .scalvad) s e) z in
+    let q = silent-frame (f .direction) (f .L-ACF) (f .lags) (f .scalvad) s (accepted-0 (f .direction) (f .L-ACF) (f .lags) (f .scalvad) s e) z in
     rw (q .sacf, q .ptsacf, q .sav0, q .ptsav0, q .lastdm)
 
 all-of-them : (s : State) (fs : List Frame) → Silence s fs → heldOf (stateFrom s fs) ≡ hushes (length fs) (heldOf s)
@@ -205,7 +205,7 @@ module _ (a b : ℕ → ℤ) (d : ℤ) where
       (h .sacf ≡ row 27 (λ i. pos 0)) × (h .sav0 ≡ row 36 (λ i. pos 0)) × (h .lastdm ≡ pos 65536)
 
   nothing-left : (p q : ℕ) → Pointer LAST-SACF p → Pointer LAST-SAV0 q → Nothing p q
-  unfolding hushes hush storedOf nextOf IF_THEN_ELSE_ row L-av0Of L-av1Of L-add clamp predictedOf whitenedOf L-workOf L-sum aav1Of L-coefOf raisedOf vparOf eqZ L-mult norm leadingZeros shiftLeft shiftRight wrap residue compareOf L-dmOf sizeOf L-ΣpOf sav0Of measuredOf sub L-sub
+  unfolding hushes hush storedOf nextOf IF_THEN_ELSE_ row L-av0Of L-av1Of L-add clamp predictedOf whitenedOf L-workOf L-sum aav1Of L-coefOf raisedOf vparOf reflectionOf eqZ L-mult norm leadingZeros shiftLeft shiftRight wrap residue compareOf L-dmOf sizeOf L-ΣpOf sav0Of measuredOf sub L-sub
   nothing-left p q P Q =
       by-18 (λ p. Nothing p q)
       (by-27 (Nothing 0) (refl, refl, refl) (refl, refl, refl) (refl, refl, refl) (refl, refl, refl) q Q)
@@ -218,7 +218,7 @@ pub silence-forgets : EightForget
 unfolding Silence answerTo firstOf
 silence-forgets s [] shape n q = absurd (omega arith)
 silence-forgets s (f ∷ fs) shape n q =
-    let v = accepted (f .L-ACF) (f .lags) (f .scalvad) s (accepted-0 (f .L-ACF) (f .lags) (f .scalvad) s (q .0)) .state in
+    let v = accepted (samplesOk (f .direction)) (f .L-ACF) (f .lags) (f .scalvad) s (accepted-0 (f .direction) (f .L-ACF) (f .lags) (f .scalvad) s (q .0)) .state in
     let rows : hushes (length (f ∷ fs)) (heldOf s) ≡ hushes 8 (record { sacf = firstOf 27 (pos 0) (s .sacf); ptsacf = s .ptsacf; sav0 = firstOf 36 (pos 0) (s .sav0); ptsav0 = s .ptsav0; lastdm = s .lastdm }) = rw (n, first-whole 27 (s .sacf) (pos 0) (shape .sacf), first-whole 36 (s .sav0) (pos 0) (shape .sav0)) in
     let e = all-of-them s (f ∷ fs) q ∙ rows in
     let r = nothing-left (λ i. at (s .sacf) i) (λ i. at (s .sav0) i) (s .lastdm) (s .ptsacf) (s .ptsav0) (record { within = v .ptsacf-last; nines = v .ptsacf-nines }) (record { within = v .ptsav0-last; nines = v .ptsav0-nines }) in
@@ -251,9 +251,9 @@ module _ (s : State) (f : Frame) (n : Forgotten s) (ok : answerTo s f .refusal �
       let g = predictedOf (m .av1) in L-dmOf (m .av0) (g .rav1) (g .normrav1) ≡ pos 65536
   measured = rw (no-spectrum _ av1-first .filter) (same-dm _)
 
-  is-next : answerTo s f ≡ acceptedOf (f .L-ACF) (f .lags) (f .scalvad) s
+  is-next : answerTo s f ≡ acceptedOf (toneRead (f .direction) s) (toneKept (f .direction)) (f .L-ACF) (f .lags) (f .scalvad) s
   unfolding answerTo
-  is-next = step-accepted (f .L-ACF) (f .lags) (f .scalvad) s (accepted-0 (f .L-ACF) (f .lags) (f .scalvad) s ok)
+  is-next = step-accepted (f .direction) (f .L-ACF) (f .lags) (f .scalvad) s (accepted-0 (f .direction) (f .L-ACF) (f .lags) (f .scalvad) s ok)
 
   steady : (answerTo s f .stat ≡ true) × (answerTo s f .next .lastdm ≡ pos 65536)
   unfolding acceptedOf spectralOf compareOf sizeOf IF_THEN_ELSE_ L-sub clamp

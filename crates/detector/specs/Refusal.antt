@@ -1,5 +1,5 @@
--- Document 01's table of refusals for a frame, in its order 1, 5, 2, 3, 4. Assumes nothing.
-use mathlib.Core.Bool.{Bool, _&&_}
+-- Document 01's table of refusals for a frame, in its order 1, 5, 2, 3, 4; on the downlink 8 directly after number 1. Assumes nothing.
+use mathlib.Core.Bool.{Bool, true, false, _&&_}
 use mathlib.Core.List.{List}
 use Prim.Native.Nat.{ℕ}
 use lib.Dec.{eqb}
@@ -15,6 +15,21 @@ use Rattle.state.specs.Valid.{lagOk, validOf}
 -- not "a lent buffer has the wrong length (9 numbers, 4 lags)"
 unfoldable pub lengthsOk : List ℤ → List ℕ → Bool
 lengthsOk L-ACF lags = eqb (length L-ACF) 9 && eqb (length lags) 4
+
+-- a frame goes up, from the handset to the network, or down; one that goes down has its samples too, as the encoder hands them over
+pub data Direction : Type 0 where
+  up : Direction
+  down : List ℤ → Direction
+
+-- from whether it goes down, and its samples, which are looked at only then
+unfoldable pub directionOf : Bool → List ℤ → Direction
+directionOf false sof = up
+directionOf true sof = down sof
+
+-- not "a downlink frame with other than 160 samples" (request 5)
+unfoldable pub samplesOk : Direction → Bool
+samplesOk up = true
+samplesOk (down sof) = eqb (length sof) 160
 
 -- not "scalvad outside 0..4"
 unfoldable pub scaleOk : ℤ → Bool
@@ -38,10 +53,12 @@ frameRefusalOf L-ACF lags scalvad =
     ELSE 3
     ELSE 2
 
--- with the buffers before it, and then the state
-unfoldable pub refusalOf : List ℤ → List ℕ → ℤ → State → ℕ
-refusalOf L-ACF lags scalvad s =
+-- with the buffers before it, and then the state. `samples` says that the frame has the samples that its direction asks for
+unfoldable pub refusalOf : Bool → List ℤ → List ℕ → ℤ → State → ℕ
+refusalOf samples L-ACF lags scalvad s =
     IF lengthsOk L-ACF lags THEN
+    IF samples THEN
     IF validOf s THEN frameRefusalOf L-ACF lags scalvad
     ELSE 5
+    ELSE 8
     ELSE 1

@@ -23,17 +23,17 @@ use Rattle.state.specs.declared.State.{State}
 use Rattle.state.specs.Valid.{Shaped}
 use Rattle.detector.specs.declared.Middle.{Middle}
 use Rattle.detector.specs.declared.Answer.{Answer}
-use Rattle.detector.specs.Refusal.{refusalOf}
-use Rattle.detector.specs.Step.{answeredOf, stepOf}
+use Rattle.detector.specs.Refusal.{Direction, samplesOk, refusalOf}
+use Rattle.detector.specs.Step.{answeredOf, toneRead, toneKept, answerFor}
 use Rattle.detector.specs.Run.{Frame, answerTo, stateFrom}
 
 -- nine numbers that are all 0
 abbrev pub zeros : List ℤ
 zeros = row 9 (λ i. pos 0)
 
-module _ (L-ACF : List ℤ) (lags : List ℕ) (scalvad : ℤ) (s : State) where
+module _ (d : Direction) (L-ACF : List ℤ) (lags : List ℕ) (scalvad : ℤ) (s : State) where
   abbrev answer : Answer
-  answer = stepOf L-ACF lags scalvad s
+  answer = answerFor d L-ACF lags scalvad s
 
   -- 6.2: the sum of the three stored frames, to which this one adds nothing; 6.3: the filter of the oldest average; 6.4: the one compared with the other
   abbrev av0 : List ℤ
@@ -47,7 +47,7 @@ module _ (L-ACF : List ℤ) (lags : List ℕ) (scalvad : ℤ) (s : State) where
 
   -- the answer with anything in the place of what 6.2 to 6.4 find: where `spectralOf` stands in `acceptedOf`
   abbrev answerBy : Middle → Answer
-  answerBy = answeredOf lags s (energyOf L-ACF scalvad (s .rvad) (s .normrvad))
+  answerBy = answeredOf (toneRead d s) (toneKept d) lags s (energyOf L-ACF scalvad (s .rvad) (s .normrvad))
 
   pub record SilentFrame : Type 0 where
     -- 6.1
@@ -72,9 +72,9 @@ module _ (L-ACF : List ℤ) (lags : List ℕ) (scalvad : ℤ) (s : State) where
     -- these flags do not depend on what 6.2 to 6.4 find: they are the same with anything in its place, and so by a reading that leaves silence out
     pub any-reading : (m : Middle) → (answer .vvad ≡ answerBy m .vvad) × (answer .vad ≡ answerBy m .vad)
 
--- every all-zero frame that is accepted: its state is valid then, and may be any that is
+-- every all-zero frame that is accepted, in either direction: its state is valid then, and may be any that is
 abbrev pub SilentFrames : Type 0
-SilentFrames = (L-ACF : List ℤ) (lags : List ℕ) (scalvad : ℤ) (s : State) → refusalOf L-ACF lags scalvad s ≡ 0 → at L-ACF 0 ≡ pos 0 → SilentFrame L-ACF lags scalvad s
+SilentFrames = (d : Direction) (L-ACF : List ℤ) (lags : List ℕ) (scalvad : ℤ) (s : State) → refusalOf (samplesOk d) L-ACF lags scalvad s ≡ 0 → at L-ACF 0 ≡ pos 0 → SilentFrame d L-ACF lags scalvad s
 
 -- ---- an average that begins with 0, as that of four all-zero frames does, and the filter of nothing, which is made of it
 abbrev pub nothing : Filter

@@ -17,7 +17,7 @@ use Rattle.pairs.specs.Pairs.{greaterOf}
 use Rattle.energy.specs.Energy.{sacfOf, acf0Of, filterSumOf, positive, pvadOf, energyOf}
 use Rattle.averages.specs.Averages.{inside, L-tempOf, L-av0Of, storedOf, L-av1Of, nextOf, averageOf}
 use Rattle.predictor.specs.Schur as schur
-use Rattle.predictor.specs.Schur.{KOf, leavesOf, coefficientOf, turnedOf, innerFrom, outerFrom, schurOf, vparOf}
+use Rattle.predictor.specs.Schur.{KOf, leavesOf, coefficientOf, turnedOf, innerFrom, outerFrom, schurOf, reflectionOf, vparOf}
 use Rattle.predictor.specs.StepUp.{raisedOf, L-coefOf, aav1Of}
 use Rattle.predictor.specs.Filter.{L-workOf, whitenedOf, predictedOf}
 use Rattle.spectrum.specs.Spectrum.{sav0Of, L-ΣpOf, sizeOf, quotientOf, dividedOf, measuredOf, L-dmOf, compareOf}
@@ -27,14 +27,14 @@ use Rattle.hangover.specs.Sentence.{bits}
 use Rattle.lags.specs.Lags.{ptchOf, smallagOf, countedOf, onceOf, lagcountOf}
 use Rattle.state.specs.Valid.{pointerOk, sacfWithin, sacfOk, sav0Ok, weightOf, rvadOk, thvadOk, lagOk, countsOk, validOf, resetOf}
 use Rattle.detector.specs.declared.Answer.{Answer}
-use Rattle.detector.specs.Refusal.{lengthsOk, scaleOk, acfOk, lagsOk, frameRefusalOf, refusalOf}
-use Rattle.detector.specs.Step.{spectralOf, acceptedOf, refusedOf, stepOf}
+use Rattle.detector.specs.Refusal.{up, lengthsOk, samplesOk, scaleOk, acfOk, lagsOk, frameRefusalOf, refusalOf}
+use Rattle.detector.specs.Step.{spectralOf, acceptedOf, refusedOf, toneRead, toneKept, answerFor}
 use Rattle.detector.specs.Run.{Frame, answerTo, stateFrom, acceptedFrom, flagsOf, rawsOf}
 use Rattle.detector.specs.Sentence.{accepted}
 
 -- L_ACF is x and then zeros, at scale 0, with four lags of 40
 abbrev pub frame : ℤ → Frame
-frame x = record { L-ACF = x ∷ pos 0 ∷ pos 0 ∷ pos 0 ∷ pos 0 ∷ pos 0 ∷ pos 0 ∷ pos 0 ∷ pos 0 ∷ []; lags = 40 ∷ 40 ∷ 40 ∷ 40 ∷ []; scalvad = pos 0 }
+frame x = record { direction = up; L-ACF = x ∷ pos 0 ∷ pos 0 ∷ pos 0 ∷ pos 0 ∷ pos 0 ∷ pos 0 ∷ pos 0 ∷ pos 0 ∷ []; lags = 40 ∷ 40 ∷ 40 ∷ 40 ∷ []; scalvad = pos 0 }
 
 abbrev pub loud : Frame
 loud = frame (pos 100000)
@@ -44,7 +44,7 @@ quiet = frame (pos 1)
 
 -- with a first lag of 0: refusal 4
 abbrev pub bad : Frame
-bad = record { L-ACF = loud .L-ACF; lags = 0 ∷ 40 ∷ 40 ∷ 40 ∷ []; scalvad = pos 0 }
+bad = record { direction = up; L-ACF = loud .L-ACF; lags = 0 ∷ 40 ∷ 40 ∷ 40 ∷ []; scalvad = pos 0 }
 
 -- the accepted ones of these frames have these raw flags and these flags
 unfoldable pub Answered : List Frame → List ℕ → List ℕ → Type 0
@@ -56,12 +56,12 @@ pub table :
     × Answered (loud ∷ loud ∷ loud ∷ quiet ∷ quiet ∷ quiet ∷ loud ∷ quiet ∷ quiet ∷ quiet ∷ []) (1 ∷ 1 ∷ 1 ∷ 0 ∷ 0 ∷ 0 ∷ 1 ∷ 0 ∷ 0 ∷ 0 ∷ []) (1 ∷ 1 ∷ 1 ∷ 1 ∷ 1 ∷ 1 ∷ 1 ∷ 1 ∷ 0 ∷ 0 ∷ [])
     -- a refused frame does not end a burst
     × Answered (loud ∷ loud ∷ bad ∷ loud ∷ quiet ∷ []) (1 ∷ 1 ∷ 1 ∷ 0 ∷ []) (1 ∷ 1 ∷ 1 ∷ 1 ∷ [])
-unfolding Answered accepted acceptedFrom answerTo flagsOf rawsOf bits ptchOf stepOf acceptedOf refusedOf refusalOf frameRefusalOf lengthsOk scaleOk acfOk lagsOk validOf countsOk pointerOk sacfOk sacfWithin sav0Ok rvadOk weightOf thvadOk lagOk within resetOf row all total IF_THEN_ELSE_ energyOf acf0Of pvadOf filterSumOf positive sacfOf L-sum add sub L-add L-mult norm leadingZeros shiftLeft shiftRight clamp wrap residue eqZ adaptOf greaterOf hangoverOf startedOf burstOf runDownOf spectralOf averageOf inside L-tempOf L-av0Of storedOf L-av1Of nextOf lagcountOf onceOf countedOf smallagOf
+unfolding Answered accepted acceptedFrom answerTo flagsOf rawsOf bits ptchOf answerFor samplesOk toneRead toneKept acceptedOf refusedOf refusalOf frameRefusalOf lengthsOk scaleOk acfOk lagsOk validOf countsOk pointerOk sacfOk sacfWithin sav0Ok rvadOk weightOf thvadOk lagOk within resetOf row all total IF_THEN_ELSE_ energyOf acf0Of pvadOf filterSumOf positive sacfOf L-sum add sub L-add L-mult norm leadingZeros shiftLeft shiftRight clamp wrap residue eqZ adaptOf greaterOf hangoverOf startedOf burstOf runDownOf spectralOf averageOf inside L-tempOf L-av0Of storedOf L-av1Of nextOf lagcountOf onceOf countedOf smallagOf
 table = ((refl, refl), (refl, refl), (refl, refl), (refl, refl))
 
 -- ---- silence, an instance of what Silence.antt says. 200000, -100000, 100000, 0.. is a sound that does not change
 abbrev pub steady : Frame
-steady = record { L-ACF = pos 200000 ∷ negsuc 99999 ∷ pos 100000 ∷ pos 0 ∷ pos 0 ∷ pos 0 ∷ pos 0 ∷ pos 0 ∷ pos 0 ∷ []; lags = 40 ∷ 40 ∷ 40 ∷ 40 ∷ []; scalvad = pos 0 }
+steady = record { direction = up; L-ACF = pos 200000 ∷ negsuc 99999 ∷ pos 100000 ∷ pos 0 ∷ pos 0 ∷ pos 0 ∷ pos 0 ∷ pos 0 ∷ pos 0 ∷ []; lags = 40 ∷ 40 ∷ 40 ∷ 40 ∷ []; scalvad = pos 0 }
 
 abbrev pub silence : Frame
 silence = frame (pos 0)
@@ -85,5 +85,5 @@ pub silence-table :
     × (answerTo (stateFrom resetOf hushed) loud .stat ≡ true)
     -- silence right after a reset, where lastdm is 0, is compared too
     × (answerTo resetOf silence .next .lastdm ≡ pos 65536)
-unfolding stateFrom Answered accepted acceptedFrom answerTo flagsOf rawsOf bits ptchOf stepOf acceptedOf refusedOf refusalOf frameRefusalOf lengthsOk scaleOk acfOk lagsOk validOf countsOk pointerOk sacfOk sacfWithin sav0Ok rvadOk weightOf thvadOk lagOk within resetOf row all total IF_THEN_ELSE_ energyOf acf0Of pvadOf filterSumOf positive sacfOf L-sum add sub L-add L-mult norm leadingZeros shiftLeft shiftRight clamp wrap residue eqZ adaptOf greaterOf hangoverOf startedOf burstOf runDownOf spectralOf averageOf inside L-tempOf L-av0Of storedOf L-av1Of nextOf lagcountOf onceOf countedOf smallagOf predictedOf whitenedOf L-workOf aav1Of L-coefOf raisedOf vparOf schurOf outerFrom innerFrom turnedOf coefficientOf leavesOf KOf schur.sacfOf compareOf L-dmOf measuredOf dividedOf quotientOf sizeOf L-ΣpOf sav0Of mult-r abs over div L-sub
+unfolding stateFrom Answered accepted acceptedFrom answerTo flagsOf rawsOf bits ptchOf answerFor samplesOk toneRead toneKept acceptedOf refusedOf refusalOf frameRefusalOf lengthsOk scaleOk acfOk lagsOk validOf countsOk pointerOk sacfOk sacfWithin sav0Ok rvadOk weightOf thvadOk lagOk within resetOf row all total IF_THEN_ELSE_ energyOf acf0Of pvadOf filterSumOf positive sacfOf L-sum add sub L-add L-mult norm leadingZeros shiftLeft shiftRight clamp wrap residue eqZ adaptOf greaterOf hangoverOf startedOf burstOf runDownOf spectralOf averageOf inside L-tempOf L-av0Of storedOf L-av1Of nextOf lagcountOf onceOf countedOf smallagOf predictedOf whitenedOf L-workOf aav1Of L-coefOf raisedOf vparOf reflectionOf schurOf outerFrom innerFrom turnedOf coefficientOf leavesOf KOf schur.sacfOf compareOf L-dmOf measuredOf dividedOf quotientOf sizeOf L-ΣpOf sav0Of mult-r abs over div L-sub
 silence-table = (refl, refl, refl, (refl, refl), refl, refl)

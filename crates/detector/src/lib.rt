@@ -1,5 +1,8 @@
-// The voice activity detector of GSM 06.32 on the uplink: one frame, the state before it, and the answer with the state after it.
+// The voice activity detector of GSM 06.32, on the uplink and on the downlink: one frame, the state before it, and the answer with the state after it.
+ghost use mathlib.Core.Bool.{false};
 ghost use mathlib.Core.Path.{_≡_};
+ghost use Rattle.rows.specs.Choice.{IF_THEN_ELSE_};
+ghost use Rattle.tone.specs.Tone.{flagOf};
 ghost use Rattle.detector.specs.Refusal as table;
 ghost use Rattle.detector.specs.Step as clause;
 use averages::average;
@@ -20,11 +23,15 @@ use state::lag_ok;
 use state::state_ok;
 use threshold::Kept;
 use threshold::adapt;
+use tone::tone;
 
 // A frame's autocorrelations and lags, as many as are lent.
 pub const NUMBERS: usize = 9;
 
 pub const LAGS: usize = 4;
+
+// The samples of a downlink frame.
+pub const SAMPLES: usize = 160;
 
 // The answer to a frame; `stat` is what 6.4 finds in it.
 pub struct Answer {
@@ -96,15 +103,18 @@ pub fn frame_refusal(acf: [i32; 9], lags: [u16; 4], scalvad: i16) -> u8
     4
 }
 
-// The refusal number of a frame and a state, 0 for a frame that is accepted.
-fn refusal(acf: &[i32], lags: &[u16], scalvad: i16, s: State) -> u8
-    ensures { λ r. ⌜ r ≡ table.refusalOf (now (acf .entry)) (now (lags .entry)) scalvad s ⌝ }
+// The refusal number of a frame and a state, 0 for a frame that is accepted; `samples` says that it has those of its direction.
+fn refusal(samples: bool, acf: &[i32], lags: &[u16], scalvad: i16, s: State) -> u8
+    ensures { λ r. ⌜ r ≡ table.refusalOf samples (now (acf .entry)) (now (lags .entry)) scalvad s ⌝ }
 {
     if acf.len() != NUMBERS {
         return 1;
     }
     if lags.len() != LAGS {
         return 1;
+    }
+    if !samples {
+        return 8;
     }
     if state_ok(s) {
         return frame_refusal(nine(acf), four(lags), scalvad);
@@ -141,9 +151,16 @@ fn spectral(acf: [i32; 9], scalvad: i16, s: State) -> Middle
     }
 }
 
-// A frame that is accepted.
-fn accepted(acf: [i32; 9], lags: [u16; 4], scalvad: i16, s: State) -> Answer
-    ensures { λ r. ⌜ r ≡ clause.acceptedOf acf lags scalvad s ⌝ }
+// A frame that is accepted: 6.6 reads `tone`, and `found` is kept for the next frame.
+fn accepted(
+    tone: bool,
+    found: bool,
+    acf: [i32; 9],
+    lags: [u16; 4],
+    scalvad: i16,
+    s: State,
+) -> Answer
+    ensures { λ r. ⌜ r ≡ clause.acceptedOf tone found acf lags scalvad s ⌝ }
 {
     let rvad = s.rvad;
     let thvad = s.thvad;
@@ -163,6 +180,7 @@ fn accepted(acf: [i32; 9], lags: [u16; 4], scalvad: i16, s: State) -> Answer
         pvad,
         ptch(s.oldlagcount, s.veryoldlagcount),
         m.stat,
+        tone,
         rav1,
         m.normrav1,
         kept,
@@ -188,6 +206,7 @@ fn accepted(acf: [i32; 9], lags: [u16; 4], scalvad: i16, s: State) -> Answer
         oldlagcount: lagcount(s.oldlag, lags),
         veryoldlagcount: s.oldlagcount,
         oldlag: lags[3],
+        tone: found,
     };
     Answer {
         refusal: 0,
@@ -215,13 +234,54 @@ pub fn refused(number: u8, s: State) -> Answer
     }
 }
 
-// One frame: nine autocorrelations and four lags, lent; the scale; the state before.
+// One frame on the uplink: nine autocorrelations and four lags, lent; the scale; the state before.
 pub fn step(acf: &[i32], lags: &[u16], scalvad: i16, s: State) -> Answer
     ensures { λ r. ⌜ r ≡ clause.stepOf (now (acf .entry)) (now (lags .entry)) scalvad s ⌝ }
 {
-    let number = refusal(acf, lags, scalvad, s);
+    let number = refusal(true, acf, lags, scalvad, s);
     if number == 0 {
-        return accepted(nine(acf), four(lags), scalvad, s);
+        return accepted(false, false, nine(acf), four(lags), scalvad, s);
+    }
+    refused(number, s)
+}
+
+// One frame on the downlink: the same, and its 160 samples, lent.
+pub fn downlink(acf: &[i32], lags: &[u16], scalvad: i16, sof: &[i16], s: State) -> Answer
+    ensures { λ r. ⌜ r ≡ clause.downlinkOf (now (acf .entry)) (now (lags .entry)) scalvad (now (sof .entry)) s ⌝ }
+{
+    let number = refusal(sof.len() == SAMPLES, acf, lags, scalvad, s);
+    if number == 0 {
+        return accepted(s.tone, tone(sof), nine(acf), four(lags), scalvad, s);
+    }
+    refused(number, s)
+}
+
+// The flag that is kept for the next frame: on the downlink what 6.10 finds in the samples.
+fn kept(downlink: bool, sof: &[i16]) -> bool
+    ensures { λ r. ⌜ r ≡ (IF downlink THEN flagOf (now (sof .entry)) ELSE false) ⌝ }
+{
+    if downlink {
+        return tone(sof);
+    }
+    false
+}
+
+// One frame in either direction; the samples are looked at on the downlink alone. For speed, whoever has frames of both calls this: the clauses are then
+// in the program once, and the compiler puts them into their caller.
+pub fn frame(
+    downlink: bool,
+    acf: &[i32],
+    lags: &[u16],
+    scalvad: i16,
+    sof: &[i16],
+    s: State,
+) -> Answer
+    ensures { λ r. ⌜ r ≡ clause.answerFor (table.directionOf downlink (now (sof .entry))) (now (acf .entry)) (now (lags .entry)) scalvad s ⌝ }
+{
+    let number = refusal(!downlink | (sof.len() == SAMPLES), acf, lags, scalvad, s);
+    if number == 0 {
+        let found = kept(downlink, sof);
+        return accepted(downlink & s.tone, found, nine(acf), four(lags), scalvad, s);
     }
     refused(number, s)
 }

@@ -1,6 +1,7 @@
 // What programs share with files: the file that is named or standard input, read piece by piece, and standard output. What fails is named on
 // standard error. No contract can say which bytes are read or written: the promises here are of numbers alone.
 ghost use mathlib.Core.Path.{_≡_};
+ghost use lib.Dec.{eqb};
 ghost use lib.ListN.{length};
 ghost use Rattle.io.specs.Counts.{Counts};
 use libc::STDERR_FILENO;
@@ -113,6 +114,32 @@ pub fn read(fd: i32, name: &[u8], piece: &mut [u8]) -> Got
         n,
         more: n > 0,
         failed: got < 0,
+    }
+}
+
+// Reads until the piece is full, or the input ends or can't be read. There may be more where it is full.
+pub fn fill(fd: i32, name: &[u8], piece: &mut [u8]) -> Got
+    ensures { λ r. ⌜ Counts (r .n) (now (piece .exit)) ⌝ }
+    ensures { λ r. ⌜ length (now (piece .exit)) ≡ length (now (piece .entry)) ⌝ }
+    ensures { λ r. ⌜ r .more ≡ eqb (r .n) (length (now (piece .entry))) ⌝ }
+{
+    let mut n = 0;
+    while n < piece.len() {
+        let got = read(fd, name, &mut piece[n..]);
+        let k = got.n;
+        if k == 0 {
+            return Got {
+                n,
+                more: false,
+                failed: got.failed,
+            };
+        }
+        n += k;
+    }
+    Got {
+        n,
+        more: true,
+        failed: false,
     }
 }
 

@@ -2,15 +2,16 @@
 use mathlib.Core.Path.{_≡_, sym, ap, _∙_}
 use mathlib.Core.Bool.{true, false}
 use mathlib.Core.List.{List}
-use Prim.Native.Nat.{ℕ}
+use Prim.Native.Nat.{ℕ, _<_}
 use native.Mathlib.Omega.{arith}
 use lib.Dec.{eqb}
 use borrow.Author.Tests.{eq-eqb, ne-eqb, eqb-true, eqb-false}
 use lib.IntN.{ℤ}
 use lib.ListN.{length}
 use Rattle.rows.specs.Choice.{IF_THEN_ELSE_}
-use Rattle.rows.proofs.Choice.{either, by-yes, by-no}
+use Rattle.rows.proofs.Choice.{either, by-yes, by-no, by-test}
 use Rattle.detector.specs.Refusal.{lengthsOk}
+use Rattle.detector.proofs.Table.{frame-digit}
 use Rattle.lines.specs.Line.{Frame, frameOf, lineOf, formedOf}
 use Rattle.lines.specs.Answers.{rangesOf, refusedOf, acceptedOf, checkedOf, decodedOf, headingOf, readOf, acfAfter, lagsAfter, writeOf, lineAfter}
 use Rattle.lines.specs.declared.Decoded.{Decoded}
@@ -57,6 +58,14 @@ module _ (l : List ℕ) where
 
   pub accepted-is : decodedOf l .refusal ≡ 0 → decodedOf l ≡ acceptedOf (frameOf l)
   accepted-is e = let h = accepted-formed e in decoded-accepted (h .0) (h .1)
+
+-- its number is a digit
+pub decoded-digit : (l : List ℕ) → decodedOf l .refusal < 10
+unfolding decodedOf checkedOf acceptedOf refusedOf rangesOf
+decoded-digit l =
+    by-test (λ (d : Decoded). d .refusal < 10) (formedOf l) _ _
+    (λ t. by-test (λ (d : Decoded). d .refusal < 10) (eqb (rangesOf (frameOf l)) 0) _ _ (λ u. omega arith) (λ u. frame-digit (frameOf l .acf) (frameOf l .lags) (frameOf l .scale)))
+    (λ t. omega arith)
 
 -- ---- a line read into lent numbers and lags
 module _ (a : List ℤ) (g l : List ℕ) where

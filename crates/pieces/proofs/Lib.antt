@@ -2,6 +2,7 @@ pub mod Written
 pub mod Found
 pub mod Carried
 pub mod Whole
+pub mod Ended
 pub mod Caller
 pub mod Runs
 pub mod Folds

@@ -37,7 +37,7 @@ length-take-most : (n : ℕ) (l : List ℕ) → length (take n l) ≤ n
 length-take-most n l = simp length-take (omega arith)
 
 -- where a line ends in p
-first-is : (p : List ℕ) → plainOf p + 1 ≤ length p → firstOf p ≡ plainOf p + 1
+pub first-is : (p : List ℕ) → plainOf p + 1 ≤ length p → firstOf p ≡ plainOf p + 1
 unfolding firstOf
 first-is p h = omega arith
 
@@ -45,7 +45,7 @@ first-more : (p m : List ℕ) → plainOf p + 1 ≤ length p → firstOf (p ++ m
 unfolding firstOf
 first-more p m h = let c = plain-more p m (omega arith) in let d = length-append p m in omega arith
 
-head-one : (h p : List ℕ) → plainOf h ≡ length h → 0 < length h → plainOf p + 1 ≤ length p → linesOf (short (h ++ take (plainOf p + 1) p)) ≡ short (h ++ take (plainOf p + 1) p) ∷ []
+pub head-one : (h p : List ℕ) → plainOf h ≡ length h → 0 < length h → plainOf p + 1 ≤ length p → linesOf (short (h ++ take (plainOf p + 1) p)) ≡ short (h ++ take (plainOf p + 1) p) ∷ []
 head-one h p e s n =
     let i = plainOf p + 1 in
     let a = length-append h (take i p) in
@@ -56,7 +56,7 @@ head-one h p e s n =
 
 -- ---- a piece in which no line ends
 module _ (f : Finder) (p : List ℕ) (z : toOf p ≡ 0) where
-  none-plain : plainOf p ≡ length p
+  pub none-plain : plainOf p ≡ length p
   unfolding toOf plainOf
   none-plain =
       let q = end-plain p (length p) (omega arith) (rw (drop-length p) refl) in
@@ -79,15 +79,15 @@ module _ (f : Finder) (p : List ℕ) (z : toOf p ≡ 0 → ⊥) where
   unfolding toOf
   to-le = end-le p (length p)
 
-  to-feed : getD p (toOf p - 1) 0 ≡ 10
+  pub to-feed : getD p (toOf p - 1) 0 ≡ 10
   unfolding toOf
   to-feed = end-feed p (length p) (omega (arith, z))
 
-  to-plain : plainOf (drop (toOf p) p) ≡ length (drop (toOf p) p)
+  pub to-plain : plainOf (drop (toOf p) p) ≡ length (drop (toOf p) p)
   unfolding toOf plainOf
   to-plain = end-plain p (length p) (omega arith) (rw (drop-length p) refl)
 
-  first-to : plainOf p + 1 ≤ toOf p
+  pub first-to : plainOf p + 1 ≤ toOf p
   first-to = let a = to-le in let b = to-feed in let c = plain-at p (toOf p - 1) (omega (arith, z)) b in omega (arith, z)
 
   pub ending-le : endingOf f p ≤ toOf p

@@ -22,6 +22,11 @@ plainOf (b ∷ l) = IF eqb b 10 THEN 0 ELSE suc (plainOf l)
 unfoldable pub firstOf : List ℕ → ℕ
 firstOf l = min (plainOf l + 1) (length l)
 
+-- how many lines end in a text: its line feeds
+unfoldable pub feedsOf : List ℕ → ℕ
+feedsOf [] = 0
+feedsOf (b ∷ l) = IF eqb b 10 THEN suc (feedsOf l) ELSE feedsOf l
+
 -- as much of a line as is looked at: the longest line of any form has 84 bytes, so one byte more shows that a line is malformed
 abbrev pub longest : ℕ
 longest = 84

@@ -104,6 +104,19 @@ fn last_end(s: &[u8]) -> usize
     0
 }
 
+// How many lines end in a piece. A loop that never leaves is done many bytes at a time.
+pub fn feeds(piece: &[u8]) -> usize
+    ensures { λ r. ⌜ r ≡ text.feedsOf (now (piece .entry)) ⌝ }
+{
+    let mut n = 0;
+    for k in 0..piece.len() {
+        if piece[k] == 10 {
+            n += 1;
+        }
+    }
+    n
+}
+
 // ---- the carried line
 
 // Nothing carried.

@@ -20,7 +20,7 @@ use Rattle.rows.specs.Choice.{eqZ}
 use Rattle.rows.specs.Rows.{row}
 use Rattle.rows.proofs.Choice.{by-test}
 use Rattle.rows.proofs.Fill.{row-all}
-use Rattle.predictor.specs.Schur.{Arrays, leavesOf, coefficientOf, outerFrom, schurOf, vparOf}
+use Rattle.predictor.specs.Schur.{Arrays, leavesOf, coefficientOf, outerFrom, schurOf, reflectionOf, vparOf}
 
 pub abs-some : (x : ℤ) → pos 0 ≤ℤ abs x
 unfolding abs clamp
@@ -57,8 +57,13 @@ outer-fits N (suc turns) n a vpar h =
     let c = coefficientOf P0 P1 in
     by-test Shorts (leavesOf P0 P1) _ _ (λ t. h) (λ t. outer-fits N turns (n + 1) _ (set vpar n c) (set-shorts vpar n c (coefficient-fits P0 P1) h))
 
-pub vpar-fits : (L-av1 : List ℤ) (k : ℕ) → SFits w16 (at (vparOf L-av1) k)
-unfolding vparOf schurOf
-vpar-fits L-av1 =
+-- of any order
+pub reflection-fits : (N : ℕ) (L-av1 : List ℤ) (k : ℕ) → SFits w16 (at (reflectionOf N L-av1) k)
+unfolding reflectionOf schurOf
+reflection-fits N L-av1 =
     let none : Shorts (row 9 (λ i. pos 0)) = row-all (SFits w16) 9 (λ i. pos 0) nothing (λ k. nothing) in
-    by-test Shorts (eqZ (at L-av1 0) (pos 0)) _ _ (λ t. none) (λ t. outer-fits 8 8 1 _ _ none)
+    by-test Shorts (eqZ (at L-av1 0) (pos 0)) _ _ (λ t. none) (λ t. outer-fits N N 1 _ _ none)
+
+pub vpar-fits : (L-av1 : List ℤ) (k : ℕ) → SFits w16 (at (vparOf L-av1) k)
+unfolding vparOf
+vpar-fits L-av1 = reflection-fits 8 L-av1

@@ -1,5 +1,5 @@
--- Clause 6.3.1, the Schur recursion, line by line, for any order N from 1 to 8: the clause's is 8. The arrays have the clause's numbering, so
--- that vpar[0], and what is not said of K, is 0 and not used. Assumes nothing.
+-- Clause 6.3.1, the Schur recursion, line by line, for any order N up to 8: the clause's is 8, and that of 6.10.3, which is the same, is 4. The
+-- arrays have the clause's numbering, so that vpar[0], and what is not said of K, is 0 and not used. Assumes nothing.
 use mathlib.Core.Bool.{Bool, _&&_}
 use mathlib.Core.List.{List}
 use Prim.Native.Nat.{ℕ, zero, suc, _+_, _-_}
@@ -59,6 +59,10 @@ schurOf N sacf = outerFrom N N 1 (record { P = sacf; K = row 9 (KOf N sacf) }) (
 unfoldable pub sacfOf : List ℤ → ℕ → ℤ
 sacfOf L-av1 k = at L-av1 k << norm (at L-av1 0) >> pos 16
 
--- the whole clause: `IF( L_av1[0] == 0 ) THEN FOR i = 1 to 8: vpar[i] = 0`
+-- the whole clause for the order N: `IF( L_av1[0] == 0 ) THEN FOR i = 1 to N: vpar[i] = 0`
+unfoldable pub reflectionOf : ℕ → List ℤ → List ℤ
+reflectionOf N L-av1 = IF eqZ (at L-av1 0) (pos 0) THEN row 9 (λ i. pos 0) ELSE schurOf N (row 9 (sacfOf L-av1))
+
+-- that of 6.3.1
 unfoldable pub vparOf : List ℤ → List ℤ
-vparOf L-av1 = IF eqZ (at L-av1 0) (pos 0) THEN row 9 (λ i. pos 0) ELSE schurOf 8 (row 9 (sacfOf L-av1))
+vparOf L-av1 = reflectionOf 8 L-av1

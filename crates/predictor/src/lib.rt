@@ -1,7 +1,7 @@
 // Clause 6.3: from the averaged autocorrelations of four frames before to the filter that whitens them.
 ghost use mathlib.Core.List.{_++_};
 ghost use mathlib.Core.Path.{_≡_};
-ghost use Prim.Native.Nat.{_-_, _<_, _≤_};
+ghost use Prim.Native.Nat.{_-_, _<_, _≤_, min};
 ghost use lib.IntN.{pos};
 ghost use Rattle.operations.specs.Operations as op;
 ghost use Rattle.rows.specs.Rows.{row};
@@ -20,6 +20,7 @@ use operations::norm;
 use operations::sub;
 use operations::topped;
 use rows::lagged;
+use rows::lesser;
 
 // The autocorrelation of the predictor, and its scaling.
 pub struct Filter {
@@ -96,7 +97,17 @@ fn sacf(av1: [i32; 9]) -> [i16; 9]
     out
 }
 
-// The reflection coefficients.
+// The reflection coefficients of an order, which is at most 8: a greater one is taken as 8.
+pub fn reflection(order: usize, acf: [i32; 9]) -> [i16; 9]
+    ensures { λ r. ⌜ r ≡ schur.reflectionOf (min order 8) acf ⌝ }
+{
+    if acf[0] == 0 {
+        return [0i16; 9];
+    }
+    recursion(lesser(order, 8), sacf(acf))
+}
+
+// The reflection coefficients of the averages, by a call of its own of the recursion, for speed: the compiler then knows the order in each.
 pub fn vpar(av1: [i32; 9]) -> [i16; 9]
     ensures { λ r. ⌜ r ≡ schur.vparOf av1 ⌝ }
 {

@@ -1,4 +1,3 @@
-pub mod Small
 pub mod Steps
 pub mod Replies
 pub mod Calls

@@ -11,15 +11,17 @@ use Rattle.rows.proofs.Choice.{by-test}
 use Rattle.lines.specs.Line.{LINE}
 use Rattle.lines.specs.declared.Decoded.{Decoded}
 use Rattle.lines.specs.Answers.{decodedOf, refusedOf}
+use Rattle.lines.proofs.Answers.{decoded-digit}
 use Rattle.lines.proofs.Malformed.{decoded-long, decoded-cut, decoded-short}
 use Rattle.state.specs.declared.State.{State}
+use Rattle.detector.specs.Refusal.{up}
 use Rattle.detector.specs.Step.{stepOf}
+use Rattle.detector.proofs.Table.{answer-digit}
 use Rattle.pieces.specs.Lines.{plainOf, short}
 use Rattle.runner.specs.declared.Reply.{Reply}
 use Rattle.runner.specs.declared.Said.{Said}
 use Rattle.runner.specs.Said.{saidOf, deniedOf, steppedOf, textOf}
 use Rattle.runner.specs.Run.{replyOf, answerOf}
-use Rattle.runner.proofs.Small.{step-small, decoded-small}
 
 pub said-no : (s : State) (l : List ℕ) → (decodedOf l .refusal ≡ 0 → ⊥) → saidOf s l ≡ deniedOf (decodedOf l .refusal) s
 unfolding saidOf IF_THEN_ELSE_
@@ -34,8 +36,8 @@ pub said-small : (s : State) (l : List ℕ) → saidOf s l .reply .refusal < 10
 unfolding saidOf steppedOf deniedOf
 said-small s l =
     by-test (λ (x : Said). x .reply .refusal < 10) (eqb (decodedOf l .refusal) 0) _ _
-    (λ t. step-small (decodedOf l .acf) (decodedOf l .lags) (decodedOf l .scale) s)
-    (λ t. decoded-small l)
+    (λ t. answer-digit up (decodedOf l .acf) (decodedOf l .lags) (decodedOf l .scale) s)
+    (λ t. decoded-digit l)
 
 pub text-four : (r : Reply) → length (textOf r) ≡ 4
 unfolding textOf

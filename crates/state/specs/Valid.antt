@@ -1,7 +1,7 @@
 -- When a state is valid (document 01, 'One frame'): as a test that computes, in the paper's order, and as a record of named facts.
 -- `proofs/Facts.antt` shows that the two agree. Then the state after a reset. Assumes nothing.
 use mathlib.Core.Path.{_≡_}
-use mathlib.Core.Bool.{Bool, _&&_}
+use mathlib.Core.Bool.{Bool, false, _&&_}
 use mathlib.Core.List.{List, [], _∷_}
 use Prim.Native.Nat.{ℕ, suc, _+_, _*_, _%_, _≤_}
 use lib.Dec.{leb, eqb}
@@ -108,4 +108,5 @@ resetOf =
       oldlagcount = pos 0;
       veryoldlagcount = pos 0;
       oldlag = 40;
+      tone = false;
     }

@@ -27,6 +27,7 @@ pub struct State {
     pub oldlagcount: i16,
     pub veryoldlagcount: i16,
     pub oldlag: u16,
+    pub tone: bool,
 }
 
 impl State {
@@ -49,6 +50,7 @@ impl State {
             oldlagcount: 0,
             veryoldlagcount: 0,
             oldlag: 40,
+            tone: false,
         }
     }
 }

@@ -1,5 +1,6 @@
 -- What a caller of `start`, `feed` and `finish` gets, by their promises alone, is what the whole trace is told, however it is cut. Assumes nothing.
 use mathlib.Core.Path.{_≡_, refl, sym, ap, _∙_}
+use mathlib.Core.Bool.{Bool}
 use mathlib.Core.List.{List, [], _∷_, append-nil}
 use Prim.Native.Nat.{ℕ, _/_, _≤_}
 use native.Mathlib.Omega.{arith}
@@ -15,47 +16,50 @@ use Rattle.pieces.specs.Calls.{Call, piecesOf}
 use Rattle.pieces.specs.Pieces.{flat, textAfter}
 use Rattle.pieces.proofs.Found.{one-line}
 use Rattle.pieces.proofs.Carried.{held-plain}
-use Rattle.pieces.proofs.Calls.{calls-whole}
+use Rattle.samples.specs.Beside.{Beside, blockOf, nextBeside, textBeside}
+use Rattle.samples.proofs.Beside.{calls-beside}
 use Rattle.pieces.proofs.Written.{put-front}
 use Rattle.pieces.proofs.Runs.{handed-fits}
 use Rattle.why.specs.declared.Why.{Why}
-use Rattle.why.specs.declared.Explainer.{Explainer}
-use Rattle.why.specs.Explain as why
+use Rattle.teller.specs.declared.Hearing.{Hearing}
 use Rattle.teller.specs.declared.Teller.{Teller}
 use Rattle.teller.specs.declared.Fed.{Fed}
 use Rattle.teller.specs.declared.Told.{Told}
 use Rattle.teller.specs.Words.{textOf, most}
-use Rattle.teller.specs.Run.{deniedOf, nextOf, lineText, explainerOf, textsOf, tellOf}
-use Rattle.teller.specs.Fed.{startOf, writtenOf, nextTeller, fedOf, outAfter, finishOf, givenOf, leftOf, lastOf, callsFrom}
+use Rattle.teller.specs.Run.{deniedOf, nextOf, lineText, hearingOf, textsOf, tellOf}
+use Rattle.teller.specs.Fed.{startOf, besideOf, writtenOf, nextTeller, fedOf, outAfter, finishOf, givenOf, leftOf, lastOf, callsFrom}
 use Rattle.teller.proofs.Steps.{told-cut, told-short, cut-text, text-most}
 
 -- ---- a piece
-module _ (t : Teller) (p o : List ℕ) (h : length p ≤ length o / most) where
-  pub fed-next : fedOf t p (length o) .teller ≡ nextTeller t p
+module _ (t : Teller) (p samples o : List ℕ) (h : length p ≤ length o / most) where
+  pub fed-next : fedOf t p samples (length o) .teller ≡ nextTeller t p samples
   unfolding fedOf IF_THEN_ELSE_
   fed-next = rw (le-leb (length p) (length o / most) h)
 
-  pub fed-text : take (fedOf t p (length o) .wrote) (outAfter t p o) ≡ writtenOf t p
+  pub fed-text : take (fedOf t p samples (length o) .wrote) (outAfter t p samples o) ≡ writtenOf t p samples
   unfolding fedOf outAfter IF_THEN_ELSE_ writtenOf textsOf
-  fed-text = rw (le-leb (length p) (length o / most) h) (put-front o (writtenOf t p) (handed-fits nextOf lineText most text-most (t .finder) p (t .explainer) (length o) (omega arith)))
+  fed-text =
+      rw (le-leb (length p) (length o / most) h)
+      (put-front o (writtenOf t p samples) (handed-fits (nextBeside nextOf) (textBeside lineText) most text-most (t .finder) p (besideOf t samples) (length o) (omega arith)))
 
-pub wrote-fits : (t : Teller) (p : List ℕ) (n : ℕ) → fedOf t p n .wrote ≤ n
+pub wrote-fits : (t : Teller) (p samples : List ℕ) (n : ℕ) → fedOf t p samples n .wrote ≤ n
 unfolding fedOf writtenOf textsOf
-wrote-fits t p n =
+wrote-fits t p samples n =
     by-test (λ (f : Fed). f .wrote ≤ n) (leb (length p) (n / most)) _ _
-    (λ y. let h = leb-true (length p) (n / most) y in handed-fits nextOf lineText most text-most (t .finder) p (t .explainer) n (omega arith))
+    (λ y. let h = leb-true (length p) (n / most) y in handed-fits (nextBeside nextOf) (textBeside lineText) most text-most (t .finder) p (besideOf t samples) n (omega arith))
     (λ y. omega arith)
 
 -- ---- the end: what is carried is a line, and it has no line feed
-none : (e : Explainer) (l : List ℕ) → length l ≡ 0 → [] ≡ textsOf e (linesOf l)
+none : (b : Beside Hearing) (l : List ℕ) → length l ≡ 0 → [] ≡ textsOf b (linesOf l)
 unfolding textsOf linesOf textAfter
-none e [] z = refl
-none e (b ∷ l) z = absurd (omega arith)
+none b [] z = refl
+none b (x ∷ l) z = absurd (omega arith)
 
-some : (e : Explainer) (l : List ℕ) → linesOf l ≡ l ∷ [] → plainOf l ≡ length l → textOf (Why.Refused 6) ≡ textsOf e (linesOf l)
-unfolding textsOf textAfter lineText deniedOf
-some e l o p =
-    sym (ap (textAfter nextOf lineText e) o ∙ (append-nil (lineText e l) ∙ ap (λ (x : Told). textOf (x .why)) (told-cut e l p)))
+some : (b : Beside Hearing) (l : List ℕ) → linesOf l ≡ l ∷ [] → plainOf l ≡ length l → textOf (Why.Refused 6) ≡ textsOf b (linesOf l)
+unfolding textsOf textAfter textBeside lineText deniedOf
+some b l o p =
+    sym (ap (textAfter (nextBeside nextOf) (textBeside lineText) b) o
+    ∙ (append-nil (textBeside lineText b l) ∙ ap (λ (x : Told). textOf (x .why)) (told-cut (b .state) (blockOf (b .left)) l p)))
 
 pub finish-fits : (t : Teller) → finishOf t .wrote ≤ 10
 unfolding finishOf
@@ -63,31 +67,31 @@ finish-fits t =
     let n = ap length cut-text in
     by-test (λ (k : ℕ). k ≤ 10) (eqb (length (heldOf (t .finder))) 0) _ _ (λ y. omega arith) (λ y. omega arith)
 
-finish-last : (t : Teller) → take (finishOf t .wrote) (finishOf t .text) ≡ textsOf (t .explainer) (linesOf (heldOf (t .finder)))
+finish-last : (t : Teller) (samples : List ℕ) → take (finishOf t .wrote) (finishOf t .text) ≡ textsOf (besideOf t samples) (linesOf (heldOf (t .finder)))
 unfolding finishOf
-finish-last t =
+finish-last t samples =
     let f = t .finder in
-    by-test (λ (n : ℕ). take n (textOf (Why.Refused 6)) ≡ textsOf (t .explainer) (linesOf (heldOf f))) (eqb (length (heldOf f)) 0) _ _
-    (λ y. none (t .explainer) (heldOf f) (eqb-true (length (heldOf f)) 0 y))
+    by-test (λ (n : ℕ). take n (textOf (Why.Refused 6)) ≡ textsOf (besideOf t samples) (linesOf (heldOf f))) (eqb (length (heldOf f)) 0) _ _
+    (λ y. none (besideOf t samples) (heldOf f) (eqb-true (length (heldOf f)) 0 y))
     (λ y.
     let p = held-plain f in
-    take-length (textOf (Why.Refused 6)) ∙ some (t .explainer) (heldOf f) (one-line (heldOf f) (omega (arith, eqb-false (length (heldOf f)) 0 y)) (omega arith)) p)
+    take-length (textOf (Why.Refused 6)) ∙ some (besideOf t samples) (heldOf f) (one-line (heldOf f) (omega (arith, eqb-false (length (heldOf f)) 0 y)) (omega arith)) p)
 
 -- ---- all calls
-short-next : (e : Explainer) (l : List ℕ) → nextOf e (short l) ≡ nextOf e l
+short-next : (h : Hearing) (b l : List ℕ) → nextOf h b (short l) ≡ nextOf h b l
 unfolding nextOf
-short-next e l = ap (λ (x : Told). x .next) (told-short e l)
+short-next h b l = ap (λ (x : Told). x .next) (told-short h b l)
 
-short-text : (e : Explainer) (l : List ℕ) → lineText e (short l) ≡ lineText e l
+short-text : (h : Hearing) (b l : List ℕ) → lineText h b (short l) ≡ lineText h b l
 unfolding lineText
-short-text e l = ap (λ (x : Told). textOf (x .why)) (told-short e l)
+short-text h b l = ap (λ (x : Told). textOf (x .why)) (told-short h b l)
 
 -- what a caller gets by the promises
-pub called : (cs : List (Call most)) → callsFrom startOf cs ≡ tellOf (flat (piecesOf cs))
-unfolding startOf callsFrom givenOf leftOf lastOf tellOf textsOf writtenOf nextTeller explainerOf
-called cs =
-    calls-whole nextOf lineText (λ (t : Teller). t .explainer) (λ (t : Teller). t .finder) givenOf leftOf lastOf
-    (λ t c. fed-text t (c .piece) (c .lent) (c .room))
-    (λ t c. ap (λ (n : Teller). n .explainer) (fed-next t (c .piece) (c .lent) (c .room)))
-    (λ t c. ap (λ (n : Teller). n .finder) (fed-next t (c .piece) (c .lent) (c .room)))
-    finish-last short-next short-text startOf refl cs
+pub called : (downlink : Bool) (samples : List ℕ) (cs : List (Call most)) → callsFrom (startOf downlink) samples cs ≡ tellOf downlink samples (flat (piecesOf cs))
+unfolding startOf callsFrom givenOf leftOf lastOf tellOf textsOf writtenOf nextTeller hearingOf
+called downlink samples cs =
+    calls-beside nextOf lineText (λ (t : Teller). t .hearing) (λ (t : Teller). t .finder) givenOf leftOf lastOf
+    (λ t q c. fed-text t (c .piece) q (c .lent) (c .room))
+    (λ t q c. ap (λ (n : Teller). n .hearing) (fed-next t (c .piece) q (c .lent) (c .room)))
+    (λ t q c. ap (λ (n : Teller). n .finder) (fed-next t (c .piece) q (c .lent) (c .room)))
+    finish-last short-next short-text (startOf downlink) refl samples cs

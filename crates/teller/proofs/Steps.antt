@@ -14,43 +14,44 @@ use Rattle.lines.specs.declared.Decoded.{Decoded}
 use Rattle.lines.specs.Answers.{decodedOf, refusedOf}
 use Rattle.lines.proofs.Malformed.{decoded-cut, decoded-short}
 use Rattle.pieces.specs.Lines.{plainOf, short}
+use Rattle.samples.specs.Beside.{Beside, blockOf, textBeside}
 use Rattle.threshold.specs.declared.Way.{Way}
 use Rattle.why.specs.declared.Flag.{Flag}
 use Rattle.why.specs.declared.Why.{Why}
-use Rattle.why.specs.declared.Explainer.{Explainer}
 use Rattle.why.specs.Fits.{flagCase, wayCase}
-use Rattle.why.specs.Explain.{explainedOf}
+use Rattle.why.specs.Explain.{explainedFor}
 use Rattle.why.proofs.Range.{WaitingIn, WhyIn, explained-in}
+use Rattle.teller.specs.declared.Hearing.{Hearing}
 use Rattle.teller.specs.declared.Told.{Told}
 use Rattle.teller.specs.Decimal.{decimalFrom, decimalOf}
 use Rattle.teller.specs.Words.{flagWord, wayWord, valuesText, flagText, wayText, reasonsText, textOf, most}
-use Rattle.teller.specs.Run.{sentOf, deniedOf, toldOf, lineText}
+use Rattle.teller.specs.Run.{directionBy, sentOf, deniedOf, toldOf, lineText}
 use Rattle.teller.proofs.Decimal.{decimal-ten, decimal-digit}
 use Rattle.teller.proofs.Texts.{hangover, hangover-text, waiting, waiting-text}
 
-module _ (e : Explainer) (l : List ℕ) where
-  pub told-no : (decodedOf l .refusal ≡ 0 → ⊥) → toldOf e l ≡ deniedOf (decodedOf l .refusal) e
+module _ (h : Hearing) (block l : List ℕ) where
+  pub told-no : (decodedOf l .refusal ≡ 0 → ⊥) → toldOf h block l ≡ deniedOf (decodedOf l .refusal) h
   unfolding toldOf
-  told-no h = by-no _ _ (ne-eqb (decodedOf l .refusal) 0 h)
+  told-no z = by-no _ _ (ne-eqb (decodedOf l .refusal) 0 z)
 
-  pub told-ok : decodedOf l .refusal ≡ 0 → toldOf e l ≡ sentOf (explainedOf e (decodedOf l .acf) (decodedOf l .lags) (decodedOf l .scale))
+  pub told-ok : decodedOf l .refusal ≡ 0 → toldOf h block l ≡ sentOf (h .downlink) (explainedFor (directionBy (h .downlink) block) (h .explainer) (decodedOf l .acf) (decodedOf l .lags) (decodedOf l .scale))
   unfolding toldOf
-  told-ok h = by-yes _ _ (eq-eqb (decodedOf l .refusal) 0 h)
+  told-ok z = by-yes _ _ (eq-eqb (decodedOf l .refusal) 0 z)
 
 -- ---- a line is known by what is read of it: so of one the first 85 bytes are enough, and a malformed one is refused with 6
-module _ (e : Explainer) where
+module _ (h : Hearing) (block : List ℕ) where
   abbrev toldBy : Decoded → Told
-  toldBy d = IF eqb (d .refusal) 0 THEN sentOf (explainedOf e (d .acf) (d .lags) (d .scale)) ELSE deniedOf (d .refusal) e
+  toldBy d = IF eqb (d .refusal) 0 THEN sentOf (h .downlink) (explainedFor (directionBy (h .downlink) block) (h .explainer) (d .acf) (d .lags) (d .scale)) ELSE deniedOf (d .refusal) h
 
-  told-as : (l : List ℕ) {d : Decoded} → decodedOf l ≡ d → toldOf e l ≡ toldBy d
+  told-as : (l : List ℕ) {d : Decoded} → decodedOf l ≡ d → toldOf h block l ≡ toldBy d
   unfolding toldOf
   told-as l q = ap toldBy q
 
-  pub told-short : (l : List ℕ) → toldOf e (short l) ≡ toldOf e l
+  pub told-short : (l : List ℕ) → toldOf h block (short l) ≡ toldOf h block l
   unfolding toldOf
   told-short l = told-as (short l) (decoded-short l)
 
-  pub told-cut : (l : List ℕ) → plainOf l ≡ length l → toldOf e l ≡ deniedOf 6 e
+  pub told-cut : (l : List ℕ) → plainOf l ≡ length l → toldOf h block l ≡ deniedOf 6 h
   unfolding refusedOf IF_THEN_ELSE_
   told-cut l p = told-as l (decoded-cut l p)
 
@@ -75,6 +76,7 @@ unfolding wayText wayWord wayCase valuesText
 way-most Way.Floor h = omega arith
 way-most Way.Periodic h = omega arith
 way-most Way.Unsteady h = omega arith
+way-most Way.Tone h = omega arith
 way-most (Way.Waiting k) h =
     let e = ap length (waiting-text k) ∙ length-append waiting (decimalOf (natAbs k)) in
     let d = ap length (decimal-digit (natAbs k) (omega (zarith, of k, sign k, h .0, h .1))) in
@@ -90,10 +92,14 @@ why-most (Why.Because r) h =
     let w = way-most (r .threshold) h in
     simp length-append (omega arith)
 
-pub text-most : (e : Explainer) (l : List ℕ) → length (lineText e l) ≤ most
+line-most : (h : Hearing) (block l : List ℕ) → length (lineText h block l) ≤ most
 unfolding lineText toldOf sentOf deniedOf
-text-most e l =
-    why-most (toldOf e l .why)
+line-most h block l =
+    why-most (toldOf h block l .why)
     (by-test (λ (t : Told). WhyIn (t .why)) (eqb (decodedOf l .refusal) 0) _ _
-    (λ t. explained-in e (decodedOf l .acf) (decodedOf l .lags) (decodedOf l .scale))
+    (λ t. explained-in (directionBy (h .downlink) block) (h .explainer) (decodedOf l .acf) (decodedOf l .lags) (decodedOf l .scale))
     (λ t. tt))
+
+pub text-most : (b : Beside Hearing) (l : List ℕ) → length (textBeside lineText b l) ≤ most
+unfolding textBeside
+text-most b l = line-most (b .state) (blockOf (b .left)) l

@@ -1,4 +1,5 @@
 pub mod Decimal
 pub mod Words
 pub mod Run
+pub mod Frames
 pub mod Fed

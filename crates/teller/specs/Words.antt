@@ -21,11 +21,12 @@ flagWord Flag.Energy = 101 ∷ 110 ∷ 101 ∷ 114 ∷ 103 ∷ 121 ∷ []
 flagWord (Flag.Hangover n) = 104 ∷ 97 ∷ 110 ∷ 103 ∷ 111 ∷ 118 ∷ 101 ∷ 114 ∷ []
 flagWord Flag.Quiet = 113 ∷ 117 ∷ 105 ∷ 101 ∷ 116 ∷ []
 
--- `floor`, `periodic`, `unsteady`, `waiting`, `adapted`
+-- `floor`, `periodic`, `unsteady`, `tone`, `waiting`, `adapted`
 unfoldable pub wayWord : Way → List ℕ
 wayWord Way.Floor = 102 ∷ 108 ∷ 111 ∷ 111 ∷ 114 ∷ []
 wayWord Way.Periodic = 112 ∷ 101 ∷ 114 ∷ 105 ∷ 111 ∷ 100 ∷ 105 ∷ 99 ∷ []
 wayWord Way.Unsteady = 117 ∷ 110 ∷ 115 ∷ 116 ∷ 101 ∷ 97 ∷ 100 ∷ 121 ∷ []
+wayWord Way.Tone = 116 ∷ 111 ∷ 110 ∷ 101 ∷ []
 wayWord (Way.Waiting k) = 119 ∷ 97 ∷ 105 ∷ 116 ∷ 105 ∷ 110 ∷ 103 ∷ []
 wayWord Way.Adapted = 97 ∷ 100 ∷ 97 ∷ 112 ∷ 116 ∷ 101 ∷ 100 ∷ []
 

@@ -21,21 +21,28 @@ const MOST: usize = 41;
 // The bytes of what a line is told that the end of the input cut.
 const CUT: usize = 10;
 
+// A run, and whether it is one on the downlink.
+pub struct Hearing {
+    pub downlink: bool,
+    pub explainer: Explainer,
+}
+
 // A trace so far: the run, and the unfinished line.
 pub struct Teller {
-    pub explainer: Explainer,
+    pub hearing: Hearing,
     pub finder: Finder,
 }
 
 // Why a line's frame was sent or not, and the run after it.
 pub struct Told {
     pub why: Why,
-    pub next: Explainer,
+    pub next: Hearing,
 }
 
-// What some lines leave: the run, and where the next text is written.
+// What some lines leave: the run, how many bytes of the samples they took, and where the next text is written.
 pub struct Ran {
-    pub explainer: Explainer,
+    pub hearing: Hearing,
+    pub used: usize,
     pub wrote: usize,
 }
 
@@ -60,25 +67,35 @@ struct Written {
 
 // ---- one line
 
-// Explains the frame of a line, with its line feed.
-pub fn tell(e: Explainer, line: &[u8]) -> Told
-    ensures { λ r. ⌜ r ≡ run.toldOf e (now (line .entry)) ⌝ }
+// Explains the frame of a line, with its line feed; `block` are the bytes of its samples.
+pub fn tell(h: Hearing, block: &[u8], line: &[u8]) -> Told
+    ensures { λ r. ⌜ r ≡ run.toldOf h (now (block .entry)) (now (line .entry)) ⌝ }
 {
     let d = lines::decode(line);
     let n = d.refusal;
     if n != 0 {
         return Told {
             why: Why::Refused(n),
-            next: e,
+            next: h,
         };
     }
     let acf = d.acf;
     let lags = d.lags;
     let scale = d.scale;
-    let r = why::explain(e, &acf, &lags, scale);
+    let e = h.explainer;
+    let heard = samples::read(block);
+    let count = heard.count;
+    let sof = heard.sof;
+    let r = why::explain(h.downlink, e, &acf, &lags, scale, &sof[..count]);
     let why = r.why;
-    let next = r.next;
-    Told { why, next }
+    let explainer = r.next;
+    Told {
+        why,
+        next: Hearing {
+            downlink: h.downlink,
+            explainer,
+        },
+    }
 }
 
 // ---- its text
@@ -147,6 +164,7 @@ fn way_text(out: &mut [u8], at: usize, w: Way) -> usize
         Way::Floor => word(out, at, b"floor"),
         Way::Periodic => word(out, at, b"periodic"),
         Way::Unsteady => word(out, at, b"unsteady"),
+        Way::Tone => word(out, at, b"tone"),
         Way::Waiting(k) => {
             let a = word(out, at, b"waiting ");
             number(out, a, magnitude(k as i32))
@@ -182,39 +200,52 @@ fn text(out: &mut [u8], at: usize, why: Why) -> usize
 
 // ---- a trace in pieces
 
-// Tells the lines of an input; the texts are written from `at` on.
-fn run(e: Explainer, input: &[u8], out: &mut [u8], at: usize) -> Ran
+// Tells the lines of an input, with 320 bytes of the samples for each; the texts are written from `at` on.
+fn run(h: Hearing, input: &[u8], samples: &[u8], out: &mut [u8], at: usize) -> Ran
     requires { ⌜ at + words.most * length (linesOf (now input)) ≤ length (now out) ⌝ }
-    ensures { λ r. ⌜ r ≡ piece.ranOf e (now (input .entry)) at ⌝ }
-    ensures { λ r. ⌜ now (out .exit) ≡ putOf (now (out .entry)) at (run.textsOf e (linesOf (now (input .entry)))) ⌝ }
+    ensures { λ r. ⌜ r ≡ piece.ranOf h (now (samples .entry)) (now (input .entry)) at ⌝ }
+    ensures { λ r. ⌜ now (out .exit) ≡ putOf (now (out .entry)) at (run.textsOf (record { state = h; left = now (samples .entry) }) (linesOf (now (input .entry)))) ⌝ }
 {
-    let mut explainer = e;
+    let mut hearing = h;
+    let mut used: usize = 0;
     let mut wrote = at;
     let mut i: usize = 0;
     while i < input.len() {
         let to = pieces::line_end(input, i);
-        let t = tell(explainer, &input[i..to]);
+        let end = samples::frame_end(samples, used);
+        let t = tell(hearing, &samples[used..end], &input[i..to]);
         let why = t.why;
         wrote = text(out, wrote, why);
-        explainer = t.next;
+        hearing = t.next;
+        used = end;
         i = to;
     }
-    Ran { explainer, wrote }
+    Ran {
+        hearing,
+        used,
+        wrote,
+    }
 }
 
 // A trace before its first piece.
-pub fn start() -> Teller
-    ensures { λ r. ⌜ r ≡ piece.startOf ⌝ }
+pub fn start(downlink: bool) -> Teller
+    ensures { λ r. ⌜ r ≡ piece.startOf downlink ⌝ }
 {
     let explainer = why::start();
     let finder = pieces::start();
-    Teller { explainer, finder }
+    Teller {
+        hearing: Hearing {
+            downlink,
+            explainer,
+        },
+        finder,
+    }
 }
 
-// Feeds a piece of the trace; `out` has 41 bytes for each byte of the piece.
-pub fn feed(t: Teller, input: &[u8], out: &mut [u8]) -> Fed
-    ensures { λ f. ⌜ f ≡ piece.fedOf t (now (input .entry)) (length (now (out .entry))) ⌝ }
-    ensures { λ f. ⌜ now (out .exit) ≡ piece.outAfter t (now (input .entry)) (now (out .entry)) ⌝ }
+// Feeds a piece of the trace and the samples of the lines that end in it; `out` has 41 bytes for each byte of the piece.
+pub fn feed(t: Teller, input: &[u8], samples: &[u8], out: &mut [u8]) -> Fed
+    ensures { λ f. ⌜ f ≡ piece.fedOf t (now (input .entry)) (now (samples .entry)) (length (now (out .entry))) ⌝ }
+    ensures { λ f. ⌜ now (out .exit) ≡ piece.outAfter t (now (input .entry)) (now (samples .entry)) (now (out .entry)) ⌝ }
 {
     if out.len() / MOST < input.len() {
         return Fed {
@@ -223,23 +254,24 @@ pub fn feed(t: Teller, input: &[u8], out: &mut [u8]) -> Fed
             teller: t,
         };
     }
-    let explainer = t.explainer;
+    let hearing = t.hearing;
     let finder = t.finder;
     let c = pieces::cut(finder, input);
     let head = c.head;
     let n = c.n;
-    let a = run(explainer, &head[..n], out, 0);
+    let a = run(hearing, &head[..n], samples, out, 0);
     let from = c.from;
     let to = c.to;
-    let middle = a.explainer;
-    let b = run(middle, &input[from..to], out, a.wrote);
-    let next = b.explainer;
+    let used = a.used;
+    let middle = a.hearing;
+    let b = run(middle, &input[from..to], &samples[used..], out, a.wrote);
+    let next = b.hearing;
     let rest = c.rest;
     Fed {
         refusal: 0,
         wrote: b.wrote,
         teller: Teller {
-            explainer: next,
+            hearing: next,
             finder: rest,
         },
     }

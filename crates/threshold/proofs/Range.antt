@@ -168,9 +168,9 @@ pub record Sound (k : Kept) : Type 0 where
   pub count-low : pos 0 ≤ℤ k .adaptcount
   pub count-high : k .adaptcount ≤ℤ pos 9
 
-module _ (acf0 pvad : Pair) (ptch stat : Bool) (rav1 : List ℤ) (normrav1 : ℤ) (k : Kept) where
+module _ (acf0 pvad : Pair) (ptch stat tone : Bool) (rav1 : List ℤ) (normrav1 : ℤ) (k : Kept) where
   abbrev pub next : Kept
-  next = adaptOf acf0 pvad ptch stat rav1 normrav1 k
+  next = adaptOf acf0 pvad ptch stat tone rav1 normrav1 k
 
   pub adapt-keeps : Sound k → (greaterOf PTH acf0 ≡ false → Ranged (negsuc 5) (pos 52) pvad) → Sound next
   unfolding adaptOf
@@ -178,7 +178,7 @@ module _ (acf0 pvad : Pair) (ptch stat : Bool) (rav1 : List ℤ) (normrav1 : ℤ
       let c = add-parts (k .adaptcount) (pos 1) (omega (zarith, plus (k .adaptcount) (pos 1), s .count-low, s .count-high)) in
       by-test Sound (greaterOf PTH acf0) _ _
       (λ t. record { thvad-in = record { e-low = omega zarith; e-high = omega zarith; mantissa = record { low = omega zarith; high = omega zarith } }; count-low = s .count-low; count-high = s .count-high })
-      (λ t. by-test Sound (ptch || not stat) _ _
+      (λ t. by-test Sound (ptch || (not stat || tone)) _ _
       (λ u. record { thvad-in = s .thvad-in; count-low = omega zarith; count-high = omega zarith })
       (λ u. by-test Sound (leZ (add (k .adaptcount) (pos 1)) (pos 8)) _ _
       (λ v. record { thvad-in = s .thvad-in; count-low = omega (zarith, s .count-low); count-high = omega zarith })
@@ -190,4 +190,4 @@ module _ (acf0 pvad : Pair) (ptch stat : Bool) (rav1 : List ℤ) (normrav1 : ℤ
   adapt-filter P old new =
       let Q : Kept → Type 0 = λ (x : Kept). P (x .rvad) (x .normrvad) in
       by-test Q (greaterOf PTH acf0) _ _ (λ t. old)
-      (λ t. by-test Q (ptch || not stat) _ _ (λ u. old) (λ u. by-test Q (leZ (add (k .adaptcount) (pos 1)) (pos 8)) _ _ (λ v. old) (λ v. new)))
+      (λ t. by-test Q (ptch || (not stat || tone)) _ _ (λ u. old) (λ u. by-test Q (leZ (add (k .adaptcount) (pos 1)) (pos 8)) _ _ (λ v. old) (λ v. new)))

@@ -1,5 +1,5 @@
 -- Clause 6.6, threshold adaptation, paragraph by paragraph. A comparison of two pairs is 6.7's. `fitted` is what the clause does four times
--- with a mantissa that may have grown past 15 bits. On the uplink there is no tone. Assumes nothing.
+-- with a mantissa that may have grown past 15 bits. Assumes nothing.
 use mathlib.Core.Bool.{Bool, not, _||_}
 use mathlib.Core.List.{List}
 use lib.IntN.{ℤ, pos}
@@ -57,12 +57,12 @@ adaptedOf thvad pvad =
     atMostOf (marginOf pvad) (IF greaterOf top low THEN atMostOf top (raisedOf low) ELSE low)
 
 -- the whole clause, with the filter of 6.3.3:
--- `IF acf0 < pth THEN thvad = plev; EXIT`, `IF ptch or not stat THEN adaptcount = 0; EXIT`,
+-- `IF acf0 < pth THEN thvad = plev; EXIT`, `IF ptch or not stat or tone THEN adaptcount = 0; EXIT`,
 -- `adaptcount = add( adaptcount, 1 ); IF ( adaptcount <= 8 ) THEN EXIT`, the new threshold, the new filter, `adaptcount = 9`
-unfoldable pub adaptOf : Pair → Pair → Bool → Bool → List ℤ → ℤ → Kept → Kept
-adaptOf acf0 pvad ptch stat rav1 normrav1 k =
+unfoldable pub adaptOf : Pair → Pair → Bool → Bool → Bool → List ℤ → ℤ → Kept → Kept
+adaptOf acf0 pvad ptch stat tone rav1 normrav1 k =
     let count = add (k .adaptcount) (pos 1) in
     IF greaterOf PTH acf0 THEN record { thvad = PLEV; adaptcount = k .adaptcount; rvad = k .rvad; normrvad = k .normrvad } ELSE
-    IF ptch || not stat THEN record { thvad = k .thvad; adaptcount = pos 0; rvad = k .rvad; normrvad = k .normrvad } ELSE
+    IF ptch || (not stat || tone) THEN record { thvad = k .thvad; adaptcount = pos 0; rvad = k .rvad; normrvad = k .normrvad } ELSE
     IF leZ count (pos 8) THEN record { thvad = k .thvad; adaptcount = count; rvad = k .rvad; normrvad = k .normrvad } ELSE
     record { thvad = adaptedOf (k .thvad) pvad; adaptcount = pos 9; rvad = rav1; normrvad = normrav1 }

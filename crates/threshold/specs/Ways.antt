@@ -16,11 +16,12 @@ use Rattle.threshold.specs.Threshold.{PTH, PLEV, adaptedOf}
 unfoldable pub risenOf : ℤ → ℤ
 risenOf adaptcount = add adaptcount (pos 1)
 
-unfoldable pub wayTaken : Pair → Bool → Bool → ℤ → Way
-wayTaken acf0 ptch stat adaptcount =
+unfoldable pub wayTaken : Pair → Bool → Bool → Bool → ℤ → Way
+wayTaken acf0 ptch stat tone adaptcount =
     IF greaterOf PTH acf0 THEN Way.Floor ELSE
     IF ptch THEN Way.Periodic ELSE
     IF not stat THEN Way.Unsteady ELSE
+    IF tone THEN Way.Tone ELSE
     IF leZ (risenOf adaptcount) (pos 8) THEN Way.Waiting (risenOf adaptcount) ELSE
     Way.Adapted
 
@@ -29,5 +30,6 @@ unfoldable pub leftBy : Way → Pair → List ℤ → ℤ → Kept → Kept
 leftBy Way.Floor pvad rav1 normrav1 k = record { thvad = PLEV; adaptcount = k .adaptcount; rvad = k .rvad; normrvad = k .normrvad }
 leftBy Way.Periodic pvad rav1 normrav1 k = record { thvad = k .thvad; adaptcount = pos 0; rvad = k .rvad; normrvad = k .normrvad }
 leftBy Way.Unsteady pvad rav1 normrav1 k = record { thvad = k .thvad; adaptcount = pos 0; rvad = k .rvad; normrvad = k .normrvad }
+leftBy Way.Tone pvad rav1 normrav1 k = record { thvad = k .thvad; adaptcount = pos 0; rvad = k .rvad; normrvad = k .normrvad }
 leftBy (Way.Waiting count) pvad rav1 normrav1 k = record { thvad = k .thvad; adaptcount = count; rvad = k .rvad; normrvad = k .normrvad }
 leftBy Way.Adapted pvad rav1 normrav1 k = record { thvad = adaptedOf (k .thvad) pvad; adaptcount = pos 9; rvad = rav1; normrvad = normrav1 }

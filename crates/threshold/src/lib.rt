@@ -32,11 +32,12 @@ pub struct Kept {
     pub normrvad: i16,
 }
 
-// The ways through the clause: out at the level, at ptch, at a spectrum that moves, with the count up to 8, or through to the end.
+// The ways through the clause: out at the level, at ptch, at a spectrum that moves, at a tone, with the count up to 8, or through to the end.
 pub enum Way {
     Floor,
     Periodic,
     Unsteady,
+    Tone,
     Waiting(i16),
     Adapted,
 }
@@ -132,11 +133,12 @@ pub fn adapt(
     pvad: Pair,
     ptch: bool,
     stat: bool,
+    tone: bool,
     rav1: [i16; 9],
     normrav1: i16,
     kept: Kept,
 ) -> Kept
-    ensures { λ r. ⌜ r ≡ clause.adaptOf acf0 pvad ptch stat rav1 normrav1 kept ⌝ }
+    ensures { λ r. ⌜ r ≡ clause.adaptOf acf0 pvad ptch stat tone rav1 normrav1 kept ⌝ }
 {
     let mut next = kept;
     let floor = Pair { e: E_PTH, m: M_PTH };
@@ -156,6 +158,10 @@ pub fn adapt(
         next.adaptcount = 0;
         return next;
     }
+    if tone {
+        next.adaptcount = 0;
+        return next;
+    }
     let count = add(kept.adaptcount, 1);
     if count <= 8 {
         next.adaptcount = count;
@@ -172,8 +178,8 @@ pub fn adapt(
 }
 
 // Which way a frame goes through the clause, with adaptcount as the frame before left it.
-pub fn way_taken(acf0: Pair, ptch: bool, stat: bool, adaptcount: i16) -> Way
-    ensures { λ r. ⌜ r ≡ wayTaken acf0 ptch stat adaptcount ⌝ }
+pub fn way_taken(acf0: Pair, ptch: bool, stat: bool, tone: bool, adaptcount: i16) -> Way
+    ensures { λ r. ⌜ r ≡ wayTaken acf0 ptch stat tone adaptcount ⌝ }
 {
     let floor = Pair { e: E_PTH, m: M_PTH };
     if greater(floor, acf0) {
@@ -184,6 +190,9 @@ pub fn way_taken(acf0: Pair, ptch: bool, stat: bool, adaptcount: i16) -> Way
     }
     if !stat {
         return Way::Unsteady;
+    }
+    if tone {
+        return Way::Tone;
     }
     let risen = add(adaptcount, 1);
     if risen <= 8 {

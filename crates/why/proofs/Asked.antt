@@ -19,7 +19,7 @@ use Rattle.threshold.specs.declared.Way.{Way}
 use Rattle.state.specs.declared.State.{State}
 use Rattle.state.specs.Valid.{resetOf}
 use Rattle.detector.specs.declared.Answer.{Answer}
-use Rattle.detector.specs.Step.{refusedOf}
+use Rattle.detector.specs.Step.{refusedOf, toneRead}
 use Rattle.detector.specs.Run.{Frame, answerTo, stateFrom, acceptedFrom, rawsOf}
 use Rattle.detector.proofs.Run.{Hangs, step-hangs, Counted, counted-start, flag-more, burst-more, counted-more, raws-length, raws-more, accepted-more, refused-more, as-given}
 use Rattle.why.specs.declared.Flag.{Flag}
@@ -27,7 +27,7 @@ use Rattle.why.specs.declared.Reasons.{Reasons}
 use Rattle.why.specs.declared.Why.{Why}
 use Rattle.why.specs.declared.Explainer.{Explainer}
 use Rattle.why.specs.declared.Explained.{Explained}
-use Rattle.why.specs.Explain.{limit, startOf, flagReason, latestAfter, thresholdReason, acceptedOf, deniedOf}
+use Rattle.why.specs.Explain.{limit, startOf, flagReason, latestAfter, thresholdReason, acceptedOf, deniedOf, explainedFor}
 use Rattle.why.specs.Fits.{Fitting}
 use Rattle.why.specs.Asked.{explainedTo, explainerFrom, explainer, count, answer, FittingAt, Explains, Denies, Asked}
 use Rattle.why.proofs.Steps.{numbered-refused, numbered-beyond, numbered-within, explained-accepted, explained-denied}
@@ -51,30 +51,34 @@ is-hangover false true l n e = (refl, refl, ap of e)
     of Flag.Quiet = 0
 
 -- ---- what a frame is answered: one that the detector accepts, one that has no number, and one that it refuses
+-- the flag that 6.6 reads in a frame
+abbrev heard : State → Frame → Bool
+heard s f = toneRead (f .direction) s
+
 module _ (e : Explainer) (f : Frame) where
   abbrev a : Answer
   a = answerTo (e .state) f
 
-  to-accepted : a .refusal ≡ 0 → e .number < limit → explainedTo e f ≡ acceptedOf e a
-  unfolding explainedTo answerTo
+  to-accepted : a .refusal ≡ 0 → e .number < limit → explainedTo e f ≡ acceptedOf (heard (e .state) f) e a
+  unfolding explainedTo explainedFor answerTo
   to-accepted h l =
       let n = numbered-within e a l in
-      explained-accepted e (f .L-ACF) (f .lags) (f .scalvad) (ap (λ (r : Answer). r .refusal) n ∙ h) ∙ ap (acceptedOf e) n
+      explained-accepted _ e a (ap (λ (r : Answer). r .refusal) n ∙ h) ∙ ap (acceptedOf (heard (e .state) f) e) n
 
   to-beyond : a .refusal ≡ 0 → limit ≤ e .number → explainedTo e f ≡ deniedOf e (refusedOf 7 (e .state))
-  unfolding explainedTo answerTo refusedOf
+  unfolding explainedTo explainedFor answerTo refusedOf
   to-beyond h l =
       let n = numbered-beyond e a h l in
-      explained-denied e (f .L-ACF) (f .lags) (f .scalvad) (λ z. seven (sym (ap (λ (r : Answer). r .refusal) n) ∙ z)) ∙ ap (deniedOf e) n
+      explained-denied _ e a (λ z. seven (sym (ap (λ (r : Answer). r .refusal) n) ∙ z)) ∙ ap (deniedOf e) n
     where
       seven : _≡_ {A = ℕ} 7 0 → ⊥
       seven q = omega arith
 
   to-refused : (a .refusal ≡ 0 → ⊥) → explainedTo e f ≡ deniedOf e a
-  unfolding explainedTo answerTo
+  unfolding explainedTo explainedFor answerTo
   to-refused h =
       let n = numbered-refused e a h in
-      explained-denied e (f .L-ACF) (f .lags) (f .scalvad) (λ z. h (sym (ap (λ (r : Answer). r .refusal) n) ∙ z)) ∙ ap (deniedOf e) n
+      explained-denied _ e a (λ z. h (sym (ap (λ (r : Answer). r .refusal) n) ∙ z)) ∙ ap (deniedOf e) n
 
 -- ---- a run: rs are the answers to the frames that were accepted
 record Holding (rs : List Answer) (e : Explainer) : Type 0 where
@@ -128,7 +132,7 @@ module _ (rs : List Answer) (e : Explainer) (f : Frame) (h : Holding rs e) (ok :
       subst (λ (l : List Bool). Latest 3 (byPlace l) (length l) now) (sym (raws-more rs r))
       (subst (λ (n : ℕ). Latest 3 (byPlace more) (length more) n) (sym (latest-now ∙ ap (latestAt 3 (byPlace more)) length-more)) (latest-is 3 (byPlace more) (length more)))
 
-  holding-more : Holding (rs ++ (r ∷ [])) (acceptedOf e r .next)
+  holding-more : Holding (rs ++ (r ∷ [])) (acceptedOf (heard (e .state) f) e r .next)
   unfolding acceptedOf
   holding-more =
       let n : e .number + 1 ≡ length more = let k = h .number in let l = length-more in omega arith in
@@ -143,23 +147,23 @@ module _ (rs : List Answer) (e : Explainer) (f : Frame) (h : Holding rs e) (ok :
   made n f w = record { number = n; flag = f; threshold = w }
 
   abbrev reasons : Reasons
-  reasons = record { number = e .number + 1; flag = flagReason (r .vvad) (r .vad) now; threshold = thresholdReason (e .state) (r .acf0) (r .stat) }
+  reasons = record { number = e .number + 1; flag = flagReason (r .vvad) (r .vad) now; threshold = thresholdReason (heard (e .state) f) (e .state) (r .acf0) (r .stat) }
 
   numbered : e .number + 1 ≡ suc (length rs)
   numbered = let k = h .number in let l = raws-length rs in omega arith
 
-  fitting : Fitting rs (e .state) r reasons
-  fitting = record { number = numbered; flag = flag-fits (rawsOf (rs ++ (r ∷ []))) r now latest-so (λ v w. held v w .0); threshold = way-fits (e .state) r }
+  fitting : Fitting rs (heard (e .state) f) (e .state) r reasons
+  fitting = record { number = numbered; flag = flag-fits (rawsOf (rs ++ (r ∷ []))) r now latest-so (λ v w. held v w .0); threshold = way-fits (heard (e .state) f) (e .state) r }
 
-  fitting-only : (q : Reasons) → Fitting rs (e .state) r q → reasons ≡ q
+  fitting-only : (q : Reasons) → Fitting rs (heard (e .state) f) (e .state) r q → reasons ≡ q
   fitting-only q g =
       let n : e .number + 1 ≡ q .number = numbered ∙ sym (g .number) in
-      let f = flag-only (rawsOf (rs ++ (r ∷ []))) r now latest-so (fitting .flag) (g .flag) in
-      let w = way-only (e .state) r (fitting .threshold) (g .threshold) in
-      ap (λ (k : ℕ). made k (reasons .flag) (reasons .threshold)) n ∙ (ap (λ (k : Flag). made (q .number) k (reasons .threshold)) f ∙ ap (made (q .number) (q .flag)) w)
+      let j = flag-only (rawsOf (rs ++ (r ∷ []))) r now latest-so (fitting .flag) (g .flag) in
+      let w = way-only (heard (e .state) f) (e .state) r (fitting .threshold) (g .threshold) in
+      ap (λ (k : ℕ). made k (reasons .flag) (reasons .threshold)) n ∙ (ap (λ (k : Flag). made (q .number) k (reasons .threshold)) j ∙ ap (made (q .number) (q .flag)) w)
 
   -- a hangover that fits is this one
-  fitting-near : (q : Reasons) (n : ℕ) → Fitting rs (e .state) r q → q .flag ≡ Flag.Hangover n → (n < q .number) × (q .number ≤ n + 5)
+  fitting-near : (q : Reasons) (n : ℕ) → Fitting rs (heard (e .state) f) (e .state) r q → q .flag ≡ Flag.Hangover n → (n < q .number) × (q .number ≤ n + 5)
   fitting-near q n g e₁ =
       let s = fitting-only q g in
       let f = ap (λ (x : Reasons). x .flag) s ∙ e₁ in
@@ -195,7 +199,7 @@ runs (f ∷ fs) rs e h l =
     (append-assoc rs (a ∷ []) (acceptedFrom (a .next) fs) ∙ ap (λ (x : List Answer). rs ++ x) (sym m))
     refl
     (ap (λ (x : Explained). explainerFrom (x .next) fs) (sym (to-accepted e f ok (omega arith))))
-    (runs fs (rs ++ (a ∷ [])) (acceptedOf e a .next) (holding-more rs e f h ok) (omega arith)))
+    (runs fs (rs ++ (a ∷ [])) (acceptedOf (heard (e .state) f) e a .next) (holding-more rs e f h ok) (omega arith)))
     (λ t.
     let not-0 = eqb-false (a .refusal) 0 t in
     let g = as-given (e .state) f not-0 in
@@ -226,7 +230,7 @@ because {r} {q} e = ap of e
 
 -- over any explainer that holds the state and the answers of a run
 module _ (rs : List Answer) (e : Explainer) (f : Frame) (h : Holding rs e) (ok : answerTo (e .state) f .refusal ≡ 0) (l : length rs < limit) where
-  is : explainedTo e f ≡ acceptedOf e (answerTo (e .state) f)
+  is : explainedTo e f ≡ acceptedOf (heard (e .state) f) e (answerTo (e .state) f)
   is = let i = h .number in let j = raws-length rs in to-accepted e f ok (omega arith)
 
   own : explainedTo e f .answer ≡ answerTo (e .state) f
@@ -237,12 +241,12 @@ module _ (rs : List Answer) (e : Explainer) (f : Frame) (h : Holding rs e) (ok :
   unfolding acceptedOf
   why = ap (λ (x : Explained). x .why) is
 
-  near : (r : Reasons) (n : ℕ) → Fitting rs (e .state) (answerTo (e .state) f) r → r .flag ≡ Flag.Hangover n → (n < r .number) × (r .number ≤ n + 5)
+  near : (r : Reasons) (n : ℕ) → Fitting rs (heard (e .state) f) (e .state) (answerTo (e .state) f) r → r .flag ≡ Flag.Hangover n → (n < r .number) × (r .number ≤ n + 5)
   near = fitting-near rs e f h ok
 
-  exactly : (r : Reasons) → (explainedTo e f .why ≡ Why.Because r) ↔ Fitting rs (e .state) (answerTo (e .state) f) r
+  exactly : (r : Reasons) → (explainedTo e f .why ≡ Why.Because r) ↔ Fitting rs (heard (e .state) f) (e .state) (answerTo (e .state) f) r
   exactly r = (
-    λ w. subst (Fitting rs (e .state) (answerTo (e .state) f)) (because (sym why ∙ w)) (fitting rs e f h ok),
+    λ w. subst (Fitting rs (heard (e .state) f) (e .state) (answerTo (e .state) f)) (because (sym why ∙ w)) (fitting rs e f h ok),
     λ g. why ∙ ap (λ (q : Reasons). Why.Because q) (fitting-only rs e f h ok r g),
   )
 
@@ -251,7 +255,7 @@ module _ (before : List Frame) (f : Frame) where
   e = explainer before
 
   abbrev Fit : Reasons → State → Type 0
-  Fit r s = Fitting (acceptedFrom resetOf before) s (answerTo s f) r
+  Fit r s = Fitting (acceptedFrom resetOf before) (heard s f) s (answerTo s f) r
 
   -- what the detector answers, by the explainer's state
   own-refusal : (s : State) → e .state ≡ s → answerTo (e .state) f .refusal ≡ answerTo s f .refusal

@@ -83,49 +83,53 @@ module _ (raws : List Bool) (a : Answer) (l : ℕ) (latest : Latest 3 (byPlace r
   flag-only = fits-only flagCase (FlagHolds raws a) flagNamed flag-known
 
 -- ---- the threshold
-module _ (s : State) (a : Answer) where
+module _ (tone : Bool) (s : State) (a : Answer) where
   abbrev count : ℤ
   count = risenOf (s .adaptcount)
 
   abbrev wayNamed : ℕ → Way
   wayNamed n =
-      IF eqb n 1 THEN Way.Floor ELSE IF eqb n 2 THEN Way.Periodic ELSE IF eqb n 3 THEN Way.Unsteady ELSE IF eqb n 4 THEN Way.Waiting count ELSE Way.Adapted
+      IF eqb n 1 THEN Way.Floor ELSE IF eqb n 2 THEN Way.Periodic ELSE IF eqb n 3 THEN Way.Unsteady ELSE IF eqb n 4 THEN Way.Tone ELSE
+      IF eqb n 5 THEN Way.Waiting count ELSE Way.Adapted
 
-  way-known : (r : Way) → WayHolds s a r → r ≡ wayNamed (wayCase r .number)
+  way-known : (r : Way) → WayHolds tone s a r → r ≡ wayNamed (wayCase r .number)
   unfolding WayHolds wayCase IF_THEN_ELSE_
   way-known Way.Floor h = refl
   way-known Way.Periodic h = refl
   way-known Way.Unsteady h = refl
+  way-known Way.Tone h = refl
   way-known (Way.Waiting k) h = ap (λ (z : ℤ). Way.Waiting z) (sym (h .0))
   way-known Way.Adapted h = refl
 
   -- no reason with a number below n holds, if none of the tests before n does
   below : (n : ℕ) → (1 < n → greaterOf PTH (a .acf0) ≡ false) → (2 < n → ptchOf (s .oldlagcount) (s .veryoldlagcount) ≡ false) → (3 < n → a .stat ≡ true)
-      → (4 < n → leZ count (pos 8) ≡ false) → n < 6 → (q : Way) → wayCase q .number < n → WayHolds s a q → ⊥
+      → (4 < n → tone ≡ false) → (5 < n → leZ count (pos 8) ≡ false) → n < 7 → (q : Way) → wayCase q .number < n → WayHolds tone s a q → ⊥
   unfolding wayCase WayHolds
-  below n low periodic unsteady waiting top Way.Floor h k = differ k (low h)
-  below n low periodic unsteady waiting top Way.Periodic h k = differ k (periodic h)
-  below n low periodic unsteady waiting top Way.Unsteady h k = differ (unsteady h) k
-  below n low periodic unsteady waiting top (Way.Waiting z) h k =
+  below n low periodic unsteady toned waiting top Way.Floor h k = differ k (low h)
+  below n low periodic unsteady toned waiting top Way.Periodic h k = differ k (periodic h)
+  below n low periodic unsteady toned waiting top Way.Unsteady h k = differ (unsteady h) k
+  below n low periodic unsteady toned waiting top Way.Tone h k = differ k (toned h)
+  below n low periodic unsteady toned waiting top (Way.Waiting z) h k =
       let w = waiting h in
       let e = k .1 in
       few (subst (λ (x : ℤ). x ≤ℤ pos 8) (sym (k .0)) e) w
     where
       few : count ≤ℤ pos 8 → leZ count (pos 8) ≡ false → ⊥
       few p q = omega zarith
-  below n low periodic unsteady waiting top Way.Adapted h k = absurd (omega arith)
+  below n low periodic unsteady toned waiting top Way.Adapted h k = absurd (omega arith)
 
-  pub way-fits : Fits wayCase (WayHolds s a) (thresholdReason s (a .acf0) (a .stat))
+  pub way-fits : Fits wayCase (WayHolds tone s a) (thresholdReason tone s (a .acf0) (a .stat))
   unfolding thresholdReason wayTaken wayCase WayHolds IF_THEN_ELSE_
-  way-fits = go (greaterOf PTH (a .acf0)) (ptchOf (s .oldlagcount) (s .veryoldlagcount)) (a .stat) (leZ count (pos 8)) refl refl refl refl
+  way-fits = go (greaterOf PTH (a .acf0)) (ptchOf (s .oldlagcount) (s .veryoldlagcount)) (a .stat) tone (leZ count (pos 8)) refl refl refl refl refl
     where
-      go : (low p st few : Bool) → greaterOf PTH (a .acf0) ≡ low → ptchOf (s .oldlagcount) (s .veryoldlagcount) ≡ p → a .stat ≡ st → leZ count (pos 8) ≡ few
-          → Fits wayCase (WayHolds s a) (IF low THEN Way.Floor ELSE IF p THEN Way.Periodic ELSE IF not st THEN Way.Unsteady ELSE IF few THEN Way.Waiting count ELSE Way.Adapted)
-      go true p st few e₁ e₂ e₃ e₄ = record { holds = e₁; first = below 1 (λ h. absurd (omega arith)) (λ h. absurd (omega arith)) (λ h. absurd (omega arith)) (λ h. absurd (omega arith)) (omega arith) }
-      go false true st few e₁ e₂ e₃ e₄ = record { holds = e₂; first = below 2 (λ h. e₁) (λ h. absurd (omega arith)) (λ h. absurd (omega arith)) (λ h. absurd (omega arith)) (omega arith) }
-      go false false false few e₁ e₂ e₃ e₄ = record { holds = e₃; first = below 3 (λ h. e₁) (λ h. e₂) (λ h. absurd (omega arith)) (λ h. absurd (omega arith)) (omega arith) }
-      go false false true true e₁ e₂ e₃ e₄ = record { holds = (refl, omega zarith); first = below 4 (λ h. e₁) (λ h. e₂) (λ h. e₃) (λ h. absurd (omega arith)) (omega arith) }
-      go false false true false e₁ e₂ e₃ e₄ = record { holds = omega zarith; first = below 5 (λ h. e₁) (λ h. e₂) (λ h. e₃) (λ h. e₄) (omega arith) }
+      go : (low p st to few : Bool) → greaterOf PTH (a .acf0) ≡ low → ptchOf (s .oldlagcount) (s .veryoldlagcount) ≡ p → a .stat ≡ st → tone ≡ to → leZ count (pos 8) ≡ few
+          → Fits wayCase (WayHolds tone s a) (IF low THEN Way.Floor ELSE IF p THEN Way.Periodic ELSE IF not st THEN Way.Unsteady ELSE IF to THEN Way.Tone ELSE IF few THEN Way.Waiting count ELSE Way.Adapted)
+      go true p st to few e₁ e₂ e₃ e₄ e₅ = record { holds = e₁; first = below 1 (λ h. absurd (omega arith)) (λ h. absurd (omega arith)) (λ h. absurd (omega arith)) (λ h. absurd (omega arith)) (λ h. absurd (omega arith)) (omega arith) }
+      go false true st to few e₁ e₂ e₃ e₄ e₅ = record { holds = e₂; first = below 2 (λ h. e₁) (λ h. absurd (omega arith)) (λ h. absurd (omega arith)) (λ h. absurd (omega arith)) (λ h. absurd (omega arith)) (omega arith) }
+      go false false false to few e₁ e₂ e₃ e₄ e₅ = record { holds = e₃; first = below 3 (λ h. e₁) (λ h. e₂) (λ h. absurd (omega arith)) (λ h. absurd (omega arith)) (λ h. absurd (omega arith)) (omega arith) }
+      go false false true true few e₁ e₂ e₃ e₄ e₅ = record { holds = e₄; first = below 4 (λ h. e₁) (λ h. e₂) (λ h. e₃) (λ h. absurd (omega arith)) (λ h. absurd (omega arith)) (omega arith) }
+      go false false true false true e₁ e₂ e₃ e₄ e₅ = record { holds = (refl, omega zarith); first = below 5 (λ h. e₁) (λ h. e₂) (λ h. e₃) (λ h. e₄) (λ h. absurd (omega arith)) (omega arith) }
+      go false false true false false e₁ e₂ e₃ e₄ e₅ = record { holds = omega zarith; first = below 6 (λ h. e₁) (λ h. e₂) (λ h. e₃) (λ h. e₄) (λ h. e₅) (omega arith) }
 
-  pub way-only : {r q : Way} → Fits wayCase (WayHolds s a) r → Fits wayCase (WayHolds s a) q → r ≡ q
-  way-only = fits-only wayCase (WayHolds s a) wayNamed way-known
+  pub way-only : {r q : Way} → Fits wayCase (WayHolds tone s a) r → Fits wayCase (WayHolds tone s a) q → r ≡ q
+  way-only = fits-only wayCase (WayHolds tone s a) wayNamed way-known

@@ -9,7 +9,7 @@ use Rattle.rows.specs.Rows.{all}
 use Rattle.state.specs.declared.State.{State}
 use Rattle.state.specs.Valid.{lagOk, validOf, Shaped, resetOf}
 use Rattle.state.proofs.Facts.{reset-valid, reset-shaped}
-use Rattle.detector.specs.Refusal.{lengthsOk, scaleOk, acfOk, lagsOk, frameRefusalOf, refusalOf}
+use Rattle.detector.specs.Refusal.{up, lengthsOk, samplesOk, scaleOk, acfOk, lagsOk, frameRefusalOf, refusalOf}
 use Rattle.detector.specs.Step.{refusedOf}
 use Rattle.detector.specs.Run.{answerTo, stateFrom, acceptedFrom}
 use Rattle.detector.specs.Worked.{quiet}
@@ -26,17 +26,17 @@ numbers (suc k) = zeros-fit 8 k
 
 -- a quiet frame is accepted from any valid state, and leaves one
 module _ (s : State) (t : validOf s ≡ true) where
-  not-refused : refusalOf (quiet .L-ACF) (quiet .lags) (quiet .scalvad) s ≡ 0
-  unfolding refusalOf frameRefusalOf lengthsOk scaleOk acfOk lagsOk lagOk within all IF_THEN_ELSE_
+  not-refused : refusalOf (samplesOk up) (quiet .L-ACF) (quiet .lags) (quiet .scalvad) s ≡ 0
+  unfolding refusalOf samplesOk frameRefusalOf lengthsOk scaleOk acfOk lagsOk lagOk within all IF_THEN_ELSE_
   not-refused = rw t
 
   taken : answerTo s quiet .refusal ≡ 0
   unfolding answerTo
-  taken = accepted-number (quiet .L-ACF) (quiet .lags) (quiet .scalvad) s not-refused
+  taken = accepted-number up (quiet .L-ACF) (quiet .lags) (quiet .scalvad) s not-refused
 
   kept : Shaped s → (validOf (answerTo s quiet .next) ≡ true) × Shaped (answerTo s quiet .next)
   unfolding answerTo
-  kept h = step-keeps (quiet .L-ACF) (quiet .lags) (quiet .scalvad) s numbers h t
+  kept h = step-keeps (quiet .L-ACF) (quiet .lags) (quiet .scalvad) s numbers h up t
 
 all-taken : (n : ℕ) (s : State) → validOf s ≡ true → Shaped s → length (acceptedFrom s (replicate n quiet)) ≡ n
 unfolding acceptedFrom

@@ -1,4 +1,5 @@
--- One frame: refused, beyond the last number, or accepted. What the proofs of `numbered` and `explain`, and the theorems, cite. Assumes nothing.
+-- One frame: refused, beyond the last number, or accepted. What the proofs of `numbered`, `reasoned` and `explain`, and the theorems, cite. Assumes nothing.
+use mathlib.Core.Bool.{Bool}
 use mathlib.Core.Path.{_≡_, refl, sym, ap, subst, _∙_}
 use mathlib.Core.List.{List}
 use Prim.Native.Nat.{ℕ, _<_, _≤_}
@@ -9,11 +10,12 @@ use lib.IntN.{ℤ}
 use Rattle.rows.specs.Choice.{IF_THEN_ELSE_}
 use Rattle.rows.proofs.Choice.{by-yes, by-no, by-test, either}
 use Rattle.detector.specs.declared.Answer.{Answer}
-use Rattle.detector.specs.Step.{refusedOf, stepOf}
+use Rattle.detector.specs.Refusal.{Direction}
+use Rattle.detector.specs.Step.{refusedOf, toneRead, answerFor}
 use Rattle.why.specs.declared.Explainer.{Explainer}
 use Rattle.why.specs.declared.Explained.{Explained}
 use Rattle.why.specs.Fits.{whyCase}
-use Rattle.why.specs.Explain.{limit, acceptedOf, deniedOf, numberedOf, explainedOf}
+use Rattle.why.specs.Explain.{limit, acceptedOf, deniedOf, numberedOf, reasonedOf, explainedFor}
 
 module _ (e : Explainer) (a : Answer) where
   -- refused already
@@ -43,23 +45,27 @@ module _ (e : Explainer) (a : Answer) where
       seven : _≡_ {A = ℕ} 7 0 → ⊥
       seven q = omega arith
 
-module _ (e : Explainer) (L-ACF : List ℤ) (lags : List ℕ) (scalvad : ℤ) where
+-- what is explained of an answer of the detector
+module _ (tone : Bool) (e : Explainer) (answer : Answer) where
   abbrev a : Answer
-  a = numberedOf e (stepOf L-ACF lags scalvad (e .state))
+  a = numberedOf e answer
 
-  pub explained-accepted : a .refusal ≡ 0 → explainedOf e L-ACF lags scalvad ≡ acceptedOf e a
-  unfolding explainedOf
+  pub explained-accepted : a .refusal ≡ 0 → reasonedOf tone e answer ≡ acceptedOf tone e a
+  unfolding reasonedOf
   explained-accepted h = by-yes _ _ (eq-eqb (a .refusal) 0 h)
 
-  pub explained-denied : (a .refusal ≡ 0 → ⊥) → explainedOf e L-ACF lags scalvad ≡ deniedOf e a
-  unfolding explainedOf
+  pub explained-denied : (a .refusal ≡ 0 → ⊥) → reasonedOf tone e answer ≡ deniedOf e a
+  unfolding reasonedOf
   explained-denied h = by-no _ _ (ne-eqb (a .refusal) 0 h)
 
   -- the number of what is told is that of the answer
-  told-number : whyCase (explainedOf e L-ACF lags scalvad .why) .number ≡ explainedOf e L-ACF lags scalvad .answer .refusal
-  unfolding explainedOf acceptedOf deniedOf whyCase
+  told-number : whyCase (reasonedOf tone e answer .why) .number ≡ reasonedOf tone e answer .answer .refusal
+  unfolding reasonedOf acceptedOf deniedOf whyCase
   told-number =
-      by-test (λ (x : Explained). whyCase (x .why) .number ≡ x .answer .refusal) (eqb (a .refusal) 0) (acceptedOf e a) (deniedOf e a) (λ t. sym (eqb-true (a .refusal) 0 t)) (λ t. refl)
+      by-test (λ (x : Explained). whyCase (x .why) .number ≡ x .answer .refusal) (eqb (a .refusal) 0) (acceptedOf tone e a) (deniedOf e a) (λ t. sym (eqb-true (a .refusal) 0 t)) (λ t. refl)
 
-  pub with-number : (x : Explained) → x ≡ explainedOf e L-ACF lags scalvad → (x ≡ explainedOf e L-ACF lags scalvad) × (whyCase (x .why) .number ≡ x .answer .refusal)
-  with-number x i = (i, subst (λ (y : Explained). whyCase (y .why) .number ≡ y .answer .refusal) (sym i) told-number)
+pub with-number : (d : Direction) (e : Explainer) (L-ACF : List ℤ) (lags : List ℕ) (scalvad : ℤ) (x : Explained)
+    → x ≡ reasonedOf (toneRead d (e .state)) e (answerFor d L-ACF lags scalvad (e .state)) → (x ≡ explainedFor d e L-ACF lags scalvad) × (whyCase (x .why) .number ≡ x .answer .refusal)
+unfolding explainedFor
+with-number d e L-ACF lags scalvad x i =
+    (i, subst (λ (y : Explained). whyCase (y .why) .number ≡ y .answer .refusal) (sym i) (told-number (toneRead d (e .state)) e (answerFor d L-ACF lags scalvad (e .state))))

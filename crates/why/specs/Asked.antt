@@ -1,4 +1,4 @@
--- What is asked of the explainer, of each frame of a run from reset, frames one after the other of which some may be refused. `asked` in
+-- What is asked of the explainer, of each frame of a run from reset, frames one after the other, of either direction, of which some may be refused. `asked` in
 -- `proofs/Asked.antt` shows it of what `start` and `explain` promise. Assumes nothing.
 use mathlib.Core.Path.{_≡_}
 use mathlib.Core.List.{List, [], _∷_}
@@ -7,19 +7,19 @@ use Prim.Native.Nat.{ℕ, _+_, _<_, _≤_}
 use lib.ListN.{length}
 use Rattle.state.specs.Valid.{resetOf}
 use Rattle.detector.specs.declared.Answer.{Answer}
-use Rattle.detector.specs.Step.{refusedOf}
+use Rattle.detector.specs.Step.{refusedOf, toneRead}
 use Rattle.detector.specs.Run.{Frame, answerTo, stateFrom, acceptedFrom}
 use Rattle.why.specs.declared.Flag.{Flag}
 use Rattle.why.specs.declared.Reasons.{Reasons}
 use Rattle.why.specs.declared.Why.{Why}
 use Rattle.why.specs.declared.Explainer.{Explainer}
 use Rattle.why.specs.declared.Explained.{Explained}
-use Rattle.why.specs.Explain.{limit, startOf, explainedOf}
+use Rattle.why.specs.Explain.{limit, startOf, explainedFor}
 use Rattle.why.specs.Fits.{Fitting}
 
 -- by the promises: what a frame is answered, and the explainer that frames leave
 unfoldable pub explainedTo : Explainer → Frame → Explained
-explainedTo e f = explainedOf e (f .L-ACF) (f .lags) (f .scalvad)
+explainedTo e f = explainedFor (f .direction) e (f .L-ACF) (f .lags) (f .scalvad)
 
 unfoldable pub explainerFrom : Explainer → List Frame → Explainer
 explainerFrom e [] = e
@@ -39,7 +39,7 @@ abbrev pub told : List Frame → Frame → Explained
 told before f = explainedTo (explainer before) f
 
 abbrev pub FittingAt : List Frame → Frame → Reasons → Type 0
-FittingAt before f r = Fitting (acceptedFrom resetOf before) (stateFrom resetOf before) (answer before f) r
+FittingAt before f r = Fitting (acceptedFrom resetOf before) (toneRead (f .direction) (stateFrom resetOf before)) (stateFrom resetOf before) (answer before f) r
 
 -- the detector's own answer, with reasons: some fit, and they are answered exactly if they do; a frame that the hangover holds has completed its burst
 -- at one of the five frames before

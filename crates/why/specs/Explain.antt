@@ -15,7 +15,8 @@ use Rattle.threshold.specs.Ways.{wayTaken}
 use Rattle.state.specs.declared.State.{State}
 use Rattle.state.specs.Valid.{resetOf}
 use Rattle.detector.specs.declared.Answer.{Answer}
-use Rattle.detector.specs.Step.{refusedOf, stepOf}
+use Rattle.detector.specs.Refusal.{Direction}
+use Rattle.detector.specs.Step.{refusedOf, toneRead, answerFor}
 use Rattle.why.specs.declared.Flag.{Flag}
 use Rattle.why.specs.declared.Why.{Why}
 use Rattle.why.specs.declared.Explainer.{Explainer}
@@ -39,18 +40,18 @@ flagReason vvad vad latest =
 unfoldable pub latestAfter : ℤ → ℕ → ℕ → ℕ
 latestAfter burstcount number latest = IF leZ BURSTCONST burstcount THEN number ELSE latest
 
--- the threshold: ptch as the state at entry has it
-unfoldable pub thresholdReason : State → Pair → Bool → Way
-thresholdReason s acf0 stat = wayTaken acf0 (ptchOf (s .oldlagcount) (s .veryoldlagcount)) stat (s .adaptcount)
+-- the threshold: ptch as the state at entry has it, and the tone flag that 6.6 read
+unfoldable pub thresholdReason : Bool → State → Pair → Bool → Way
+thresholdReason tone s acf0 stat = wayTaken acf0 (ptchOf (s .oldlagcount) (s .veryoldlagcount)) stat tone (s .adaptcount)
 
 -- an accepted frame
-unfoldable pub acceptedOf : Explainer → Answer → Explained
-acceptedOf e a =
+unfoldable pub acceptedOf : Bool → Explainer → Answer → Explained
+acceptedOf tone e a =
     let number = e .number + 1 in
     let latest = latestAfter (a .next .burstcount) number (e .latest) in
     record {
       answer = a;
-      why = Why.Because (record { number = number; flag = flagReason (a .vvad) (a .vad) latest; threshold = thresholdReason (e .state) (a .acf0) (a .stat) });
+      why = Why.Because (record { number = number; flag = flagReason (a .vvad) (a .vad) latest; threshold = thresholdReason tone (e .state) (a .acf0) (a .stat) });
       next = record { state = a .next; number = number; latest = latest };
     }
 
@@ -62,7 +63,12 @@ deniedOf e a = record { answer = a; why = Why.Refused (a .refusal); next = e }
 unfoldable pub numberedOf : Explainer → Answer → Answer
 numberedOf e a = IF eqb (a .refusal) 0 && leb limit (e .number) THEN refusedOf 7 (e .state) ELSE a
 
-unfoldable pub explainedOf : Explainer → List ℤ → List ℕ → ℤ → Explained
-explainedOf e L-ACF lags scalvad =
-    let a = numberedOf e (stepOf L-ACF lags scalvad (e .state)) in
-    IF eqb (a .refusal) 0 THEN acceptedOf e a ELSE deniedOf e a
+-- the detector's answer to a frame, explained
+unfoldable pub reasonedOf : Bool → Explainer → Answer → Explained
+reasonedOf tone e answer =
+    let a = numberedOf e answer in
+    IF eqb (a .refusal) 0 THEN acceptedOf tone e a ELSE deniedOf e a
+
+-- a frame in either direction
+unfoldable pub explainedFor : Direction → Explainer → List ℤ → List ℕ → ℤ → Explained
+explainedFor d e L-ACF lags scalvad = reasonedOf (toneRead d (e .state)) e (answerFor d L-ACF lags scalvad (e .state))

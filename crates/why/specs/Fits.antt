@@ -37,8 +37,9 @@ unfoldable pub wayCase : Way → Case
 wayCase Way.Floor = case 1 []
 wayCase Way.Periodic = case 2 []
 wayCase Way.Unsteady = case 3 []
-wayCase (Way.Waiting k) = case 4 (k ∷ [])
-wayCase Way.Adapted = case 5 []
+wayCase Way.Tone = case 4 []
+wayCase (Way.Waiting k) = case 5 (k ∷ [])
+wayCase Way.Adapted = case 6 []
 
 -- what a frame is told as a whole: document 01's number, which is 0 for an accepted frame, and the values: none for a refused one, and else the frame's
 -- number, and the number and the values of both reasons
@@ -62,17 +63,18 @@ FlagHolds raws a Flag.Energy = a .vvad ≡ true
 FlagHolds raws a (Flag.Hangover n) = (a .vad ≡ true) × (0 < n) × Latest 3 (byPlace raws) (length raws) n
 FlagHolds raws a Flag.Quiet = a .vad ≡ false
 
--- of the threshold: s is the state at entry, and a the answer
-unfoldable pub WayHolds : State → Answer → Way → Type 0
-WayHolds s a Way.Floor = greaterOf PTH (a .acf0) ≡ true
-WayHolds s a Way.Periodic = ptchOf (s .oldlagcount) (s .veryoldlagcount) ≡ true
-WayHolds s a Way.Unsteady = a .stat ≡ false
-WayHolds s a (Way.Waiting k) = (risenOf (s .adaptcount) ≡ k) × (k ≤ℤ pos 8)
-WayHolds s a Way.Adapted = pos 8 <ℤ risenOf (s .adaptcount)
+-- of the threshold: `tone` is the flag that 6.6 read, s the state at entry, and a the answer
+unfoldable pub WayHolds : Bool → State → Answer → Way → Type 0
+WayHolds tone s a Way.Floor = greaterOf PTH (a .acf0) ≡ true
+WayHolds tone s a Way.Periodic = ptchOf (s .oldlagcount) (s .veryoldlagcount) ≡ true
+WayHolds tone s a Way.Unsteady = a .stat ≡ false
+WayHolds tone s a Way.Tone = tone ≡ true
+WayHolds tone s a (Way.Waiting k) = (risenOf (s .adaptcount) ≡ k) × (k ≤ℤ pos 8)
+WayHolds tone s a Way.Adapted = pos 8 <ℤ risenOf (s .adaptcount)
 
--- ---- both, and the frame's number: a is the answer to an accepted frame, s the state at entry, and `before` are the answers to the accepted frames
--- before it
-pub record Fitting (before : List Answer) (s : State) (a : Answer) (r : Reasons) : Type 0 where
+-- ---- both, and the frame's number: a is the answer to an accepted frame, s the state at entry, `tone` the flag that 6.6 read, and `before` are the
+-- answers to the accepted frames before it
+pub record Fitting (before : List Answer) (tone : Bool) (s : State) (a : Answer) (r : Reasons) : Type 0 where
   pub number : r .number ≡ suc (length before)
   pub flag : Fits flagCase (FlagHolds (rawsOf (before ++ (a ∷ []))) a) (r .flag)
-  pub threshold : Fits wayCase (WayHolds s a) (r .threshold)
+  pub threshold : Fits wayCase (WayHolds tone s a) (r .threshold)

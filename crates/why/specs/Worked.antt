@@ -19,8 +19,8 @@ use Rattle.threshold.specs.Ways.{wayTaken}
 use Rattle.hangover.specs.Hangover.{burstOf, runDownOf, startedOf, hangoverOf}
 use Rattle.lags.specs.Lags.{ptchOf, smallagOf, countedOf, onceOf, lagcountOf}
 use Rattle.state.specs.Valid.{pointerOk, sacfWithin, sacfOk, sav0Ok, weightOf, rvadOk, thvadOk, lagOk, countsOk, validOf, resetOf}
-use Rattle.detector.specs.Refusal.{lengthsOk, scaleOk, acfOk, lagsOk, frameRefusalOf, refusalOf}
-use Rattle.detector.specs.Step.{spectralOf, acceptedOf, refusedOf, stepOf}
+use Rattle.detector.specs.Refusal.{lengthsOk, samplesOk, scaleOk, acfOk, lagsOk, frameRefusalOf, refusalOf}
+use Rattle.detector.specs.Step.{spectralOf, acceptedOf, refusedOf, toneRead, toneKept, answerFor}
 use Rattle.detector.specs.Worked.{loud, quiet, bad}
 use Rattle.why.specs.declared.Flag.{Flag}
 use Rattle.why.specs.declared.Why.{Why}
@@ -48,5 +48,5 @@ pub table :
     × (explainedTo short loud .why ≡ because 4294967295 Flag.Energy Way.Floor)
     × (explainedTo (explainedTo short loud .next) loud .why ≡ Why.Refused 7)
     × (explainedTo (explainedTo short loud .next) bad .why ≡ Why.Refused 4)
-unfolding explainerFrom explainedTo explain.startOf explain.explainedOf explain.numberedOf explain.acceptedOf explain.deniedOf explain.flagReason explain.latestAfter explain.thresholdReason wayTaken ptchOf stepOf acceptedOf refusedOf refusalOf frameRefusalOf lengthsOk scaleOk acfOk lagsOk validOf countsOk pointerOk sacfOk sacfWithin sav0Ok rvadOk weightOf thvadOk lagOk within resetOf row all total IF_THEN_ELSE_ energyOf acf0Of pvadOf filterSumOf positive sacfOf L-sum add sub L-add L-mult norm leadingZeros shiftLeft shiftRight clamp wrap residue eqZ adaptOf greaterOf hangoverOf startedOf burstOf runDownOf spectralOf averageOf inside L-tempOf L-av0Of storedOf L-av1Of nextOf lagcountOf onceOf countedOf smallagOf
+unfolding explainerFrom explainedTo explain.startOf explain.explainedFor explain.reasonedOf explain.numberedOf explain.acceptedOf explain.deniedOf explain.flagReason explain.latestAfter explain.thresholdReason wayTaken ptchOf answerFor samplesOk toneRead toneKept acceptedOf refusedOf refusalOf frameRefusalOf lengthsOk scaleOk acfOk lagsOk validOf countsOk pointerOk sacfOk sacfWithin sav0Ok rvadOk weightOf thvadOk lagOk within resetOf row all total IF_THEN_ELSE_ energyOf acf0Of pvadOf filterSumOf positive sacfOf L-sum add sub L-add L-mult norm leadingZeros shiftLeft shiftRight clamp wrap residue eqZ adaptOf greaterOf hangoverOf startedOf burstOf runDownOf spectralOf averageOf inside L-tempOf L-av0Of storedOf L-av1Of nextOf lagcountOf onceOf countedOf smallagOf
 table = (refl, refl, refl, refl, refl, refl, refl, refl)

@@ -1,6 +1,7 @@
 // Why a frame was sent or not, and why the threshold moved or not: the reasons of each frame of a run from reset.
 ghost use mathlib.Core.Path.{_≡_};
 ghost use Prim.Native.Nat.{_<_};
+ghost use Rattle.detector.specs.Refusal.{directionOf};
 ghost use Rattle.why.specs.Explain as meaning;
 ghost use Rattle.why.specs.Fits.{whyCase};
 use detector::Answer;
@@ -74,14 +75,15 @@ fn flag_reason(vvad: bool, vad: bool, latest: u32) -> Flag
     Flag::Quiet
 }
 
-// Why the threshold moved or not: the way through 6.6, from the state at entry.
-fn threshold_reason(s: State, acf0: Pair, stat: bool) -> Way
-    ensures { λ r. ⌜ r ≡ meaning.thresholdReason s acf0 stat ⌝ }
+// Why the threshold moved or not: the way through 6.6, which read `tone`, from the state at entry.
+fn threshold_reason(tone: bool, s: State, acf0: Pair, stat: bool) -> Way
+    ensures { λ r. ⌜ r ≡ meaning.thresholdReason tone s acf0 stat ⌝ }
 {
     way_taken(
         acf0,
         ptch(s.oldlagcount, s.veryoldlagcount),
         stat,
+        tone,
         s.adaptcount,
     )
 }
@@ -111,9 +113,9 @@ fn numbered(e: Explainer, a: Answer) -> Answer
 }
 
 // The reasons of a frame that is accepted.
-fn accepted(e: Explainer, a: Answer) -> Explained
+fn accepted(tone: bool, e: Explainer, a: Answer) -> Explained
     requires { ⌜ e .number < meaning.limit ⌝ }
-    ensures { λ r. ⌜ r ≡ meaning.acceptedOf e a ⌝ }
+    ensures { λ r. ⌜ r ≡ meaning.acceptedOf tone e a ⌝ }
 {
     let before = e.state;
     let after = a.next;
@@ -121,7 +123,7 @@ fn accepted(e: Explainer, a: Answer) -> Explained
     let number = e.number + 1;
     let latest = latest_after(after.burstcount, number, e.latest);
     let flag = flag_reason(a.vvad, a.vad, latest);
-    let threshold = threshold_reason(before, acf0, a.stat);
+    let threshold = threshold_reason(tone, before, acf0, a.stat);
     let reasons = Reasons {
         number,
         flag,
@@ -139,13 +141,10 @@ fn accepted(e: Explainer, a: Answer) -> Explained
     }
 }
 
-// Explains one frame, lent as to the detector.
-pub fn explain(e: Explainer, acf: &[i32], lags: &[u16], scalvad: i16) -> Explained
-    ensures { λ r. ⌜ r ≡ meaning.explainedOf e (now (acf .entry)) (now (lags .entry)) scalvad ⌝ }
-    ensures { λ r. ⌜ whyCase (r .why) .number ≡ r .answer .refusal ⌝ }
+// Explains the detector's answer to a frame; `tone` is the flag that 6.6 read.
+fn reasoned(tone: bool, e: Explainer, step: Answer) -> Explained
+    ensures { λ r. ⌜ r ≡ meaning.reasonedOf tone e step ⌝ }
 {
-    let state = e.state;
-    let step = detector::step(acf, lags, scalvad, state);
     let answer = numbered(e, step);
     let n = answer.refusal;
     if n != 0 {
@@ -155,5 +154,22 @@ pub fn explain(e: Explainer, acf: &[i32], lags: &[u16], scalvad: i16) -> Explain
             next: e,
         };
     }
-    accepted(e, answer)
+    accepted(tone, e, answer)
+}
+
+// Explains one frame in either direction, lent as to the detector.
+pub fn explain(
+    downlink: bool,
+    e: Explainer,
+    acf: &[i32],
+    lags: &[u16],
+    scalvad: i16,
+    sof: &[i16],
+) -> Explained
+    ensures { λ r. ⌜ r ≡ meaning.explainedFor (directionOf downlink (now (sof .entry))) e (now (acf .entry)) (now (lags .entry)) scalvad ⌝ }
+    ensures { λ r. ⌜ whyCase (r .why) .number ≡ r .answer .refusal ⌝ }
+{
+    let state = e.state;
+    let step = detector::frame(downlink, acf, lags, scalvad, sof, state);
+    reasoned(downlink & state.tone, e, step)
 }

@@ -16,7 +16,7 @@ use Rattle.card.proofs.filter.Statement.{statement}
 use Rattle.card.proofs.filter.Tie as tie
 
 abbrev Inv-loop : tie.InvT-loop
-Inv-loop run out₀ i₀ out i = (i ≤ 9) × (length out ≡ 9) × (length run ≡ 84) × (take i out ≡ take i (part 0 9 run))
+Inv-loop run out₀ i₀ out i = (i ≤ 9) × (length out ≡ 9) × (length run ≡ 85) × (take i out ≡ take i (part 0 9 run))
 
 abbrev μ-loop : tie.MeasureT-loop
 μ-loop run out₀ i₀ out i = 9 - i

@@ -14,7 +14,7 @@ use Rattle.card.proofs.frames.Statement.{statement}
 use Rattle.card.proofs.frames.Tie as tie
 
 abbrev Inv-loop : tie.InvT-loop
-Inv-loop run out₀ i₀ out i = (i ≤ 27) × (length out ≡ 27) × (length run ≡ 84) × (take i out ≡ take i (part 10 27 run))
+Inv-loop run out₀ i₀ out i = (i ≤ 27) × (length out ≡ 27) × (length run ≡ 85) × (take i out ≡ take i (part 10 27 run))
 
 abbrev μ-loop : tie.MeasureT-loop
 μ-loop run out₀ i₀ out i = 27 - i

@@ -11,7 +11,7 @@ use Rattle.card.proofs.lindenflax_reset.Tie as tie
 
 returns : tie.Need-returns
 unfolding resetNumber resetRun IF_THEN_ELSE_
-returns c = let t = ne-eqb _ 84 (c .if1 .taken) in (rw t, rw t)
+returns c = let t = ne-eqb _ 85 (c .if1 .taken) in (rw t, rw t)
 
 reset-requires : tie.Need-reset-requires
 reset-requires c κs = search needs
@@ -29,7 +29,7 @@ same-length c = search needs
 returns-2 : tie.Need-returns-2
 unfolding resetNumber resetRun IF_THEN_ELSE_
 returns-2 c =
-    let t = eq-eqb _ 84 (c .before .before .before .before .before .if1 .left) in
+    let t = eq-eqb _ 85 (c .before .before .before .before .before .if1 .left) in
     (rw t, rw t (c .before .put .ensures ∙ (c .before .before .packed .ensures ∙ ap runOf (c .before .before .before .reset .ensures))))
 
 pub lindenflax-reset-spec : {M : Type 1} → statement M

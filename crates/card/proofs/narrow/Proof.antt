@@ -21,6 +21,9 @@ sav0-is c = let f = ranged w32 (at (c .before .before .before .before .before .b
 lag-is : (c : tie.After-within3) → within (pos 0) (pos 65535) (at (c .before .before .before .before .before .before .before .before .before .before .before .before .args .t1) 83) ≡ c .within3 .result
 lag-is c = let f = ranged w32 (at (c .before .before .before .before .before .before .before .before .before .before .before .before .args .t1) 83) (c .before .within-arg3 .given) in sym (simp zreads at (c .within3 .ensures))
 
+tone-is : (c : tie.After-within4) → within (pos 0) (pos 1) (at (c .before .before .before .before .before .before .before .before .before .before .before .before .before .before .before .args .t1) 84) ≡ c .within4 .result
+tone-is c = let f = ranged w32 (at (c .before .before .before .before .before .before .before .before .before .before .before .before .before .before .before .args .t1) 84) (c .before .within-arg4 .given) in sym (simp zreads at (c .within4 .ensures))
+
 shorts-requires : tie.Need-shorts-requires
 shorts-requires c κs = search needs
 
@@ -74,14 +77,35 @@ within-requires-3 c κs = search needs
 
 returns-5 : tie.Need-returns-5
 unfolding narrowOf
-returns-5 c =
+returns-5 d =
+    let c = d .before in
     rw (
       sym (c .before .before .before .before .before .before .before .before .before .before .before .shorts .ensures) ∙ not-false (c .before .before .before .before .before .before .before .before .before .before .if1 .left),
       sym (c .before .before .before .before .before .before .before .before .before .shorts2 .ensures) ∙ not-false (c .before .before .before .before .before .before .before .before .if2 .left),
       sacf-is (c .before .before .before .before .before .before) ∙ not-false (c .before .before .before .before .before .if3 .left),
       sav0-is (c .before .before .before) ∙ not-false (c .before .before .if4 .left),
+      lag-is c ∙ not-true (d .if5 .taken),
     )
-    (sym (lag-is c))
+
+array-copy-out-within-4 : tie.Need-array-copy-out-within-4
+array-copy-out-within-4 c = search needs
+
+within-requires-4 : tie.Need-within-requires-4
+within-requires-4 c κs = search needs
+
+returns-6 : tie.Need-returns-6
+unfolding narrowOf
+returns-6 e =
+    let d = e .before .before in
+    let c = d .before in
+    rw (
+      sym (c .before .before .before .before .before .before .before .before .before .before .before .shorts .ensures) ∙ not-false (c .before .before .before .before .before .before .before .before .before .before .if1 .left),
+      sym (c .before .before .before .before .before .before .before .before .before .shorts2 .ensures) ∙ not-false (c .before .before .before .before .before .before .before .before .if2 .left),
+      sacf-is (c .before .before .before .before .before .before) ∙ not-false (c .before .before .before .before .before .if3 .left),
+      sav0-is (c .before .before .before) ∙ not-false (c .before .before .if4 .left),
+      lag-is c ∙ not-false (d .if5 .left),
+    )
+    (sym (tone-is e))
 
 pub narrow-spec : {M : Type 1} → statement M
 narrow-spec =
@@ -99,4 +123,7 @@ narrow-spec =
     returns-4
     array-copy-out-within-3
     within-requires-3
-    returns-5)
+    returns-5
+    array-copy-out-within-4
+    within-requires-4
+    returns-6)

@@ -7,7 +7,7 @@ use mir.Syntax.{w16, w32}
 use mir.Val.{SFits}
 use mir.Facts.{toZ-ofZ, toZ-pos}
 use Rattle.numbers.proofs.Parts.{zarith}
-use Rattle.numbers.proofs.Read.{cast-need, cast-back}
+use Rattle.numbers.proofs.Read.{back, cast-need, cast-back}
 use Rattle.rows.specs.Rows.{row}
 use Rattle.rows.proofs.Fill.{length-row}
 use Rattle.state.specs.Valid.{Shaped}
@@ -57,7 +57,7 @@ shape : (c : tie.Start) → Shaped (c .args .s)
 shape c = record { rvad = search needs; sacf = search needs; sav0 = search needs }
 
 -- the three arrays in a run of zeros
-base-is : (c : tie.After-with-sums) → let s = c .before .before .before .before .before .before .before .before .args .s in c .with-sums .result ≡ stored (stored (stored (row 84 (λ i. pos 0)) 0 (s .rvad) 9) 10 (s .sacf) 27) 38 (s .sav0) 36
+base-is : (c : tie.After-with-sums) → let s = c .before .before .before .before .before .before .before .before .args .s in c .with-sums .result ≡ stored (stored (stored (row 85 (λ i. pos 0)) 0 (s .rvad) 9) 10 (s .sacf) 27) 38 (s .sav0) 36
 unfolding row
 base-is c =
     let s = c .before .before .before .before .before .before .before .before .args .s in
@@ -142,10 +142,17 @@ cast-out-11 c = lag-fits (c .before .before .before .before .before .before .bef
 array-set-from-out-12 : tie.Need-array-set-from-out-12
 array-set-from-out-12 c = search needs
 
+bit-requires : tie.Need-bit-requires
+bit-requires c κs = search needs
+
+array-set-from-out-13 : tie.Need-array-set-from-out-13
+array-set-from-out-13 c = search needs
+
 returns : tie.Need-returns
-returns c =
+returns d =
+    let c = d .before in
     let s = c .before .before .before .before .before .before .before .before .before .before .before .before .before .before .before .before .before .before .before .before .before .before .before .before .before .before .before in
-    packs (row 84 (λ i. pos 0)) (s .args .s) (length-row 84 (λ i. pos 0)) (shape s) (base-is (c .before .before .before .before .before .before .before .before .before .before .before .before .before .before .before .before .before .before .before))
+    packs (row 85 (λ i. pos 0)) (s .args .s) (length-row 85 (λ i. pos 0)) (shape s) (base-is (c .before .before .before .before .before .before .before .before .before .before .before .before .before .before .before .before .before .before .before))
     (cast-back w16 w32 tt (norm-fits s))
     (toZ-pos w32 (sacf-pointer-fits s .sfits))
     (toZ-pos w32 (sav0-pointer-fits s .sfits))
@@ -158,6 +165,7 @@ returns c =
     (cast-back w16 w32 tt (old-fits s))
     (cast-back w16 w32 tt (very-fits s))
     (toZ-pos w32 (lag-fits s .sfits))
+    (back w32 (d .bit .ok) ∙ d .bit .ensures)
 
 pub packed-spec : {M : Type 1} → statement M
 packed-spec =
@@ -189,4 +197,6 @@ packed-spec =
     array-set-from-out-11
     cast-out-11
     array-set-from-out-12
+    bit-requires
+    array-set-from-out-13
     returns)

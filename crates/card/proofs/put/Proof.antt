@@ -12,10 +12,10 @@ use Rattle.card.proofs.put.Statement.{statement}
 use Rattle.card.proofs.put.Tie as tie
 
 abbrev Inv-loop : tie.InvT-loop
-Inv-loop state₀ run i₀ state i = (i ≤ 84) × (length state ≡ 84) × (length run ≡ 84) × (take i state ≡ take i run)
+Inv-loop state₀ run i₀ state i = (i ≤ 85) × (length state ≡ 85) × (length run ≡ 85) × (take i state ≡ take i run)
 
 abbrev μ-loop : tie.MeasureT-loop
-μ-loop state₀ run i₀ state i = 84 - i
+μ-loop state₀ run i₀ state i = 85 - i
 
 loop-holds : tie.Need-loop-holds Inv-loop μ-loop
 loop-holds c = (omega arith, c .pre, search needs, refl)
@@ -52,7 +52,7 @@ returns : tie.Need-returns Inv-loop μ-loop
 returns c =
     let a = c .before in
     let l = a .before .args .t2 in
-    copy-all (a .loop .state) l 84 (a .loop .i) (a .loop .inv .1) (a .loop .inv .2) (omega arith) (a .loop .inv .3)
+    copy-all (a .loop .state) l 85 (a .loop .i) (a .loop .inv .1) (a .loop .inv .2) (omega arith) (a .loop .inv .3)
 
 pub put-spec : {M : Type 1} → statement M
 put-spec =

@@ -14,7 +14,7 @@ use Rattle.card.proofs.sums.Statement.{statement}
 use Rattle.card.proofs.sums.Tie as tie
 
 abbrev Inv-loop : tie.InvT-loop
-Inv-loop run out₀ i₀ out i = (i ≤ 36) × (length out ≡ 36) × (length run ≡ 84) × (take i out ≡ take i (part 38 36 run))
+Inv-loop run out₀ i₀ out i = (i ≤ 36) × (length out ≡ 36) × (length run ≡ 85) × (take i out ≡ take i (part 38 36 run))
 
 abbrev μ-loop : tie.MeasureT-loop
 μ-loop run out₀ i₀ out i = 36 - i

@@ -12,10 +12,10 @@ use Rattle.card.proofs.taken.Statement.{statement}
 use Rattle.card.proofs.taken.Tie as tie
 
 abbrev Inv-loop : tie.InvT-loop
-Inv-loop state out₀ i₀ out i = (i ≤ 84) × (length out ≡ 84) × (take i out ≡ take i state)
+Inv-loop state out₀ i₀ out i = (i ≤ 85) × (length out ≡ 85) × (take i out ≡ take i state)
 
 abbrev μ-loop : tie.MeasureT-loop
-μ-loop state out₀ i₀ out i = 84 - i
+μ-loop state out₀ i₀ out i = 85 - i
 
 loop-holds : tie.Need-loop-holds Inv-loop μ-loop
 loop-holds c = (omega arith, search needs, refl)
@@ -49,7 +49,7 @@ returns : tie.Need-returns Inv-loop μ-loop
 returns c =
     let a = c .before in
     let l = a .before .args .state .now in
-    copy-all (a .loop .out) l 84 (a .loop .i) (a .loop .inv .1) (a .before .pre) (omega arith) (a .loop .inv .2)
+    copy-all (a .loop .out) l 85 (a .loop .i) (a .loop .inv .1) (a .before .pre) (omega arith) (a .loop .inv .2)
 
 pub taken-spec : {M : Type 1} → statement M
 taken-spec =

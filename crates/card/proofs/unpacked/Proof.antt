@@ -4,13 +4,14 @@ use mathlib.Core.Path.{_≡_, _∙_}
 use native.Mathlib.Omega.{arith}
 use lib.ListN.{length}
 use mir.Syntax.{w16, w32}
-use Rattle.numbers.proofs.Read.{back}
+use Rattle.numbers.specs.Sum.{at}
+use Rattle.numbers.proofs.Read.{back, ranged, zreads}
 use Rattle.card.proofs.Parted.{filter-fits, count-fits, sacf-within, sav0-within, lag-within}
 use Rattle.card.proofs.Lossless.{from-places}
 use Rattle.card.proofs.unpacked.Statement.{statement}
 use Rattle.card.proofs.unpacked.Tie as tie
 
-size : (c : tie.Start) → length (c .args .t1) ≡ 84
+size : (c : tie.Start) → length (c .args .t1) ≡ 85
 size c = search needs
 
 filter-requires : tie.Need-filter-requires
@@ -58,8 +59,15 @@ short-at-requires-8 c κs = let s = c .before .before .before .before .before .b
 last-lag-requires : tie.Need-last-lag-requires
 last-lag-requires c κs = let s = c .before .before .before .before .before .before .before .before .before .before .before .before .before .before in lag-within (s .args .t1) (size s) (s .pre)
 
+array-copy-out-flag : tie.Need-array-copy-out-flag
+array-copy-out-flag c = search needs
+
+flag-requires : tie.Need-flag-requires
+flag-requires c κs = search needs
+
 returns : tie.Need-returns
-returns c =
+returns d =
+    let c = d .before .before in
     let s = c .before .before .before .before .before .before .before .before .before .before .before .before .before .before .before in
     from-places (s .args .t1)
     (c .before .before .before .before .before .before .before .before .before .before .before .before .before .before .filter .ensures)
@@ -77,6 +85,7 @@ returns c =
     (back w16 (c .before .before .short-at7 .ok) ∙ c .before .before .short-at7 .ensures)
     (back w16 (c .before .short-at8 .ok) ∙ c .before .short-at8 .ensures)
     (c .last-lag .ensures)
+    (let f = ranged w32 (at (s .args .t1) 84) (d .before .flag-arg .given) in simp zreads at (d .flag .ensures))
 
 pub unpacked-spec : {M : Type 1} → statement M
 unpacked-spec =
@@ -97,4 +106,6 @@ unpacked-spec =
     short-at-requires-7
     short-at-requires-8
     last-lag-requires
+    array-copy-out-flag
+    flag-requires
     returns)

@@ -14,7 +14,7 @@ use Rattle.card.proofs.with_filter.Statement.{statement}
 use Rattle.card.proofs.with_filter.Tie as tie
 
 abbrev Inv-loop : tie.InvT-loop
-Inv-loop rvad out₀ i₀ out i = (i ≤ 9) × (length out₀ ≡ 84) × (length rvad ≡ 9) × (out ≡ paste out₀ 0 rvad i)
+Inv-loop rvad out₀ i₀ out i = (i ≤ 9) × (length out₀ ≡ 85) × (length rvad ≡ 9) × (out ≡ paste out₀ 0 rvad i)
 
 abbrev μ-loop : tie.MeasureT-loop
 μ-loop rvad out₀ i₀ out i = 9 - i

@@ -13,7 +13,7 @@ use Rattle.card.proofs.with_frames.Statement.{statement}
 use Rattle.card.proofs.with_frames.Tie as tie
 
 abbrev Inv-loop : tie.InvT-loop
-Inv-loop sacf out₀ i₀ out i = (i ≤ 27) × (length out₀ ≡ 84) × (length sacf ≡ 27) × (out ≡ paste out₀ 10 sacf i)
+Inv-loop sacf out₀ i₀ out i = (i ≤ 27) × (length out₀ ≡ 85) × (length sacf ≡ 27) × (out ≡ paste out₀ 10 sacf i)
 
 abbrev μ-loop : tie.MeasureT-loop
 μ-loop sacf out₀ i₀ out i = 27 - i

@@ -13,7 +13,7 @@ use Rattle.card.proofs.with_sums.Statement.{statement}
 use Rattle.card.proofs.with_sums.Tie as tie
 
 abbrev Inv-loop : tie.InvT-loop
-Inv-loop sav0 out₀ i₀ out i = (i ≤ 36) × (length out₀ ≡ 84) × (length sav0 ≡ 36) × (out ≡ paste out₀ 38 sav0 i)
+Inv-loop sav0 out₀ i₀ out i = (i ≤ 36) × (length out₀ ≡ 85) × (length sav0 ≡ 36) × (out ≡ paste out₀ 38 sav0 i)
 
 abbrev μ-loop : tie.MeasureT-loop
 μ-loop sav0 out₀ i₀ out i = 36 - i

@@ -26,17 +26,17 @@ use Rattle.detector.proofs.accepted.Statement.{statement}
 use Rattle.detector.proofs.accepted.Tie as tie
 
 -- the answer, from what the clauses gave, one equation for each and for each number that is read back
-assembled : (L-ACF : List ℤ) (lags : List ℕ) (scalvad : ℤ) (s : State) {e : Energies} {m : Middle} {p v : Bool} {k : Kept} {h : Hung} {n d a b r o w : ℤ}
+assembled : (tone found : Bool) (L-ACF : List ℤ) (lags : List ℕ) (scalvad : ℤ) (s : State) {e : Energies} {m : Middle} {p v : Bool} {k : Kept} {h : Hung} {n d a b r o w : ℤ}
     → e ≡ energyOf L-ACF scalvad (s .rvad) (s .normrvad)
     → m ≡ spectralOf L-ACF scalvad s
     → p ≡ ptchOf (s .oldlagcount) (s .veryoldlagcount)
-    → k ≡ adaptOf (e .acf0) (e .pvad) p (m .stat) (m .rav1) (m .normrav1) (record { thvad = s .thvad; adaptcount = s .adaptcount; rvad = s .rvad; normrvad = s .normrvad })
+    → k ≡ adaptOf (e .acf0) (e .pvad) p (m .stat) tone (m .rav1) (m .normrav1) (record { thvad = s .thvad; adaptcount = s .adaptcount; rvad = s .rvad; normrvad = s .normrvad })
     → v ≡ greaterOf (e .pvad) (k .thvad)
     → h ≡ hangoverOf v (s .burstcount) (s .hangcount)
     → n ≡ k .normrvad → d ≡ m .lastdm → a ≡ k .adaptcount → b ≡ h .burstcount → r ≡ h .hangcount → o ≡ pos (lagcountOf (s .oldlag) lags) → w ≡ s .oldlagcount
-    → _≡_ {A = Answer} (record { refusal = 0; vad = h .vad; vvad = v; stat = m .stat; acf0 = e .acf0; pvad = e .pvad; next = record { rvad = k .rvad; normrvad = n; sacf = m .sacf; ptsacf = m .ptsacf; sav0 = m .sav0; ptsav0 = m .ptsav0; lastdm = d; thvad = k .thvad; adaptcount = a; burstcount = b; hangcount = r; oldlagcount = o; veryoldlagcount = w; oldlag = getD lags 3 0 } }) (acceptedOf L-ACF lags scalvad s)
+    → _≡_ {A = Answer} (record { refusal = 0; vad = h .vad; vvad = v; stat = m .stat; acf0 = e .acf0; pvad = e .pvad; next = record { rvad = k .rvad; normrvad = n; sacf = m .sacf; ptsacf = m .ptsacf; sav0 = m .sav0; ptsav0 = m .ptsav0; lastdm = d; thvad = k .thvad; adaptcount = a; burstcount = b; hangcount = r; oldlagcount = o; veryoldlagcount = w; oldlag = getD lags 3 0; tone = found } }) (acceptedOf tone found L-ACF lags scalvad s)
 unfolding acceptedOf
-assembled L-ACF lags scalvad s e₁ e₂ e₃ e₄ e₅ e₆ n₁ n₂ n₃ n₄ n₅ n₆ n₇ = rw (n₁, n₂, n₃, n₄, n₅, n₆, n₇, e₆, e₅, e₄, e₃, e₂, e₁)
+assembled tone found L-ACF lags scalvad s e₁ e₂ e₃ e₄ e₅ e₆ n₁ n₂ n₃ n₄ n₅ n₆ n₇ = rw (n₁, n₂, n₃, n₄, n₅, n₆, n₇, e₆, e₅, e₄, e₃, e₂, e₁)
 
 norm-was : (c : tie.Start) → SFits w16 (c .args .s .normrvad)
 norm-was c = search needs
@@ -92,7 +92,7 @@ ptch-is c =
 abbrev was : (c : tie.Start) → Kept
 was c = record { thvad = c .args .s .thvad; adaptcount = c .args .s .adaptcount; rvad = c .args .s .rvad; normrvad = c .args .s .normrvad }
 
-adapt-is : (c : tie.After-adapt) → c .adapt .result ≡ adaptOf (c .before .before .before .before .before .before .before .before .before .before .energy .result .acf0) (c .before .before .before .before .before .before .before .before .before .before .energy .result .pvad) (c .before .before .ptch .result) (c .before .before .before .before .before .before .before .spectral .result .stat) (c .before .before .before .before .before .before .before .spectral .result .rav1) (c .before .before .before .before .before .before .before .spectral .result .normrav1) (was (c .before .before .before .before .before .before .before .before .before .before .before .before .before .before))
+adapt-is : (c : tie.After-adapt) → c .adapt .result ≡ adaptOf (c .before .before .before .before .before .before .before .before .before .before .energy .result .acf0) (c .before .before .before .before .before .before .before .before .before .before .energy .result .pvad) (c .before .before .ptch .result) (c .before .before .before .before .before .before .before .spectral .result .stat) (c .before .before .before .before .before .before .before .before .before .before .before .before .before .before .args .tone) (c .before .before .before .before .before .before .before .spectral .result .rav1) (c .before .before .before .before .before .before .before .spectral .result .normrav1) (was (c .before .before .before .before .before .before .before .before .before .before .before .before .before .before))
 adapt-is c =
     let f = norm-made (c .before .before .before .before .before .before .before) in
     let g = adapt-was (c .before .before .before .before .before .before .before .before .before .before .before .before .before .before) in
@@ -126,8 +126,8 @@ hangover-requires c κs = search needs
 lagcount-requires : tie.Need-lagcount-requires
 lagcount-requires c κs = search needs
 
-array-read-t27 : tie.Need-array-read-t27
-array-read-t27 c = search needs
+array-read-t29 : tie.Need-array-read-t29
+array-read-t29 c = search needs
 
 returns : tie.Need-returns
 returns c =
@@ -139,7 +139,7 @@ returns c =
     let m = c .before .before .before .before .before .before .before .before .before .before .before .before .before .before .before .before .before .before .before .before in
     let e = c .before .before .before .before .before .before .before .before .before .before .before .before .before .before .before .before .before .before .before .before .before .before .before in
     let s = c .before .before .before .before .before .before .before .before .before .before .before .before .before .before .before .before .before .before .before .before .before .before .before .before .before .before .before in
-    assembled (s .args .acf) (s .args .t2) (s .args .scalvad) (s .args .s)
+    assembled (s .args .tone) (s .args .found) (s .args .acf) (s .args .t4) (s .args .scalvad) (s .args .s)
     (energy-is e)
     (spectral-is m)
     (ptch-is p)
@@ -165,5 +165,5 @@ accepted-spec =
     greater-requires
     hangover-requires
     lagcount-requires
-    array-read-t27
+    array-read-t29
     returns)

@@ -9,7 +9,7 @@ use Rattle.numbers.proofs.Magnitude.{abs-fits}
 use Rattle.numbers.proofs.Read.{ranged, same-bits, other-bits}
 use Rattle.rows.specs.Rows.{row}
 use Rattle.rows.proofs.Choice.{by-yes, by-no, eqZ-yes, eqZ-no}
-use Rattle.predictor.specs.Schur.{schurOf, vparOf}
+use Rattle.predictor.specs.Schur.{schurOf, reflectionOf, vparOf}
 use Rattle.predictor.proofs.vpar.Statement.{statement}
 use Rattle.predictor.proofs.vpar.Tie as tie
 
@@ -17,7 +17,7 @@ array-copy-out-if1 : tie.Need-array-copy-out-if1
 array-copy-out-if1 c = search needs
 
 returns : tie.Need-returns
-unfolding vparOf row
+unfolding vparOf reflectionOf row
 returns c =
     let a = c .before .before .args .t1 in
     let e : at a 0 ≡ pos 0 = same-bits w32 (ranged w32 (at a 0) (c .before .if12 .given)) (abs-fits w32 (pos 0) (omega arith)) (c .if1 .taken) in
@@ -30,7 +30,7 @@ recursion-requires : tie.Need-recursion-requires
 recursion-requires c κs = search needs
 
 returns-2 : tie.Need-returns-2
-unfolding vparOf
+unfolding vparOf reflectionOf
 returns-2 c =
     let b = c .before in
     c .recursion .ensures ∙ ap (schurOf 8) (b .sacf .ensures) ∙ sym (by-no _ _ (eqZ-no (other-bits w32 (b .before .if1 .left))))

@@ -58,6 +58,20 @@ word-requires-3 c κs =
     let s = e .before .before .before in
     room-as (s .args .out .now) (s .args .at) (ap wayText (e .enum-told3 .given .1)) (s .pre)
 
+-- ---- tone
+enum-told-4 : tie.Need-enum-told-4
+enum-told-4 c = search needs
+
+slice-aggregate-word-4 : tie.Need-slice-aggregate-word-4
+slice-aggregate-word-4 c = search needs
+
+word-requires-4 : tie.Need-word-requires-4
+unfolding wayText wayWord wayCase valuesText
+word-requires-4 c κs =
+    let e = c .before .before in
+    let s = e .before .before .before in
+    room-as (s .args .out .now) (s .args .at) (ap wayText (e .enum-told4 .given .1)) (s .pre)
+
 -- ---- waiting
 enum-known-w : tie.Need-enum-known-w
 enum-known-w c = search needs
@@ -72,11 +86,11 @@ room c = let s = c .before .before .before in room-as (s .args .out .now) (s .ar
 count-fits : (c : tie.After-known-told) → SFits w16 (c .before .w .given .0 .0)
 count-fits c = search needs
 
-slice-aggregate-word-4 : tie.Need-slice-aggregate-word-4
-slice-aggregate-word-4 c = search needs
+slice-aggregate-word-5 : tie.Need-slice-aggregate-word-5
+slice-aggregate-word-5 c = search needs
 
-word-requires-4 : tie.Need-word-requires-4
-word-requires-4 c κs =
+word-requires-5 : tie.Need-word-requires-5
+word-requires-5 c κs =
     let w = c .before .before .before in
     let s = w .before .before .before in
     room-first (s .args .out .now) (s .args .at) waiting (decimalOf (natAbs (w .w .given .0 .0))) (room w)
@@ -96,22 +110,22 @@ number-requires c κs =
     let p = c .before .before .before .before in
     let w = p .before .before .before .before in
     let s = w .before .before .before in
-    room-as (p .word4 .last .0) (p .word4 .result) (ap decimalOf (count c))
-    (room-second (s .args .out .now) (s .args .at) waiting (decimalOf (natAbs (w .w .given .0 .0))) (room w) (p .word4 .ensures))
+    room-as (p .word5 .last .0) (p .word5 .result) (ap decimalOf (count c))
+    (room-second (s .args .out .now) (s .args .at) waiting (decimalOf (natAbs (w .w .given .0 .0))) (room w) (p .word5 .ensures))
 
 -- ---- adapted
-enum-told-4 : tie.Need-enum-told-4
-enum-told-4 c = search needs
+enum-told-5 : tie.Need-enum-told-5
+enum-told-5 c = search needs
 
-slice-aggregate-word-5 : tie.Need-slice-aggregate-word-5
-slice-aggregate-word-5 c = search needs
+slice-aggregate-word-6 : tie.Need-slice-aggregate-word-6
+slice-aggregate-word-6 c = search needs
 
-word-requires-5 : tie.Need-word-requires-5
+word-requires-6 : tie.Need-word-requires-6
 unfolding wayText wayWord wayCase valuesText
-word-requires-5 c κs =
+word-requires-6 c κs =
     let e = c .before .before in
     let s = e .before .before .before in
-    room-as (s .args .out .now) (s .args .at) (ap wayText (e .enum-told4 .given .1)) (s .pre)
+    room-as (s .args .out .now) (s .args .at) (ap wayText (e .enum-told5 .given .1)) (s .pre)
 
 -- ---- what is put
 same-length : tie.Need-same-length
@@ -151,25 +165,36 @@ same-length-4 : tie.Need-same-length-4
 same-length-4 c = search needs
 
 returns-4 : tie.Need-returns-4
+unfolding wayText wayWord wayCase valuesText
 returns-4 c =
-    let n = c .before .before in
-    let p = n .before .before .before .before .before in
-    let w = p .before .before .before .before in
-    let s = w .before .before .before in
-    puts-as (s .args .out .now) (s .args .at) (its-text w)
-    (puts-both (s .args .out .now) (s .args .at) waiting (decimalOf (natAbs (w .w .given .0 .0))) (room w) (p .word4 .ensures)
-    (puts-as (p .word4 .last .0) (p .word4 .result) (ap decimalOf (count (n .before))) (n .number .ensures)))
+    let w = c .before .before in
+    let e = w .before .before .before in
+    let s = e .before .before .before in
+    puts-as (s .args .out .now) (s .args .at) (ap wayText (e .enum-told4 .given .1)) (w .word4 .ensures)
 
 same-length-5 : tie.Need-same-length-5
 same-length-5 c = search needs
 
 returns-5 : tie.Need-returns-5
-unfolding wayText wayWord wayCase valuesText
 returns-5 c =
+    let n = c .before .before in
+    let p = n .before .before .before .before .before in
+    let w = p .before .before .before .before in
+    let s = w .before .before .before in
+    puts-as (s .args .out .now) (s .args .at) (its-text w)
+    (puts-both (s .args .out .now) (s .args .at) waiting (decimalOf (natAbs (w .w .given .0 .0))) (room w) (p .word5 .ensures)
+    (puts-as (p .word5 .last .0) (p .word5 .result) (ap decimalOf (count (n .before))) (n .number .ensures)))
+
+same-length-6 : tie.Need-same-length-6
+same-length-6 c = search needs
+
+returns-6 : tie.Need-returns-6
+unfolding wayText wayWord wayCase valuesText
+returns-6 c =
     let w = c .before .before in
     let e = w .before .before .before in
     let s = e .before .before .before in
-    puts-as (s .args .out .now) (s .args .at) (ap wayText (e .enum-told4 .given .1)) (w .word5 .ensures)
+    puts-as (s .args .out .now) (s .args .at) (ap wayText (e .enum-told5 .given .1)) (w .word6 .ensures)
 
 pub way-text-spec : {M : Type 1} → statement M
 way-text-spec =
@@ -184,15 +209,18 @@ way-text-spec =
     enum-told-3
     slice-aggregate-word-3
     word-requires-3
-    enum-known-w
+    enum-told-4
     slice-aggregate-word-4
     word-requires-4
+    enum-known-w
+    slice-aggregate-word-5
+    word-requires-5
     cast-magnitude
     magnitude-requires
     number-requires
-    enum-told-4
-    slice-aggregate-word-5
-    word-requires-5
+    enum-told-5
+    slice-aggregate-word-6
+    word-requires-6
     same-length
     returns
     same-length-2
@@ -202,4 +230,6 @@ way-text-spec =
     same-length-4
     returns-4
     same-length-5
-    returns-5)
+    returns-5
+    same-length-6
+    returns-6)

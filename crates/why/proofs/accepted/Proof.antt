@@ -1,5 +1,6 @@
 -- `why::accepted` puts the reasons of a frame together. Assumes nothing.
 use borrow.Author.Needs.{needs}
+use mathlib.Core.Bool.{Bool}
 use mathlib.Core.Path.{_≡_}
 use Prim.Native.Nat.{ℕ, _+_}
 use mir.Syntax.{w16}
@@ -16,13 +17,13 @@ use Rattle.why.proofs.accepted.Statement.{statement}
 use Rattle.why.proofs.accepted.Tie as tie
 
 -- from what the calls gave, one equation for each
-assembled : (e : Explainer) (a : Answer) {latest : ℕ} {flag : Flag} {way : Way}
+assembled : (tone : Bool) (e : Explainer) (a : Answer) {latest : ℕ} {flag : Flag} {way : Way}
     → latest ≡ latestAfter (a .next .burstcount) (e .number + 1) (e .latest)
     → flag ≡ flagReason (a .vvad) (a .vad) latest
-    → way ≡ thresholdReason (e .state) (a .acf0) (a .stat)
-    → _≡_ {A = Explained} (record { answer = a; why = Why.Because (record { number = e .number + 1; flag = flag; threshold = way }); next = record { state = a .next; number = e .number + 1; latest = latest } }) (acceptedOf e a)
+    → way ≡ thresholdReason tone (e .state) (a .acf0) (a .stat)
+    → _≡_ {A = Explained} (record { answer = a; why = Why.Because (record { number = e .number + 1; flag = flag; threshold = way }); next = record { state = a .next; number = e .number + 1; latest = latest } }) (acceptedOf tone e a)
 unfolding acceptedOf
-assembled e a l f w = rw (w, f, l)
+assembled tone e a l f w = rw (w, f, l)
 
 burst-fits : (c : tie.After-struct-told) → SFits w16 (c .before .before .before .before .before .args .a .next .burstcount)
 burst-fits c = let h = c .struct-told .given in search needs
@@ -45,7 +46,7 @@ returns c =
     let l = f .before in
     let s = l .before .before .before .before .before .before in
     let b = burst-fits (l .before) in
-    assembled (s .args .e) (s .args .a)
+    assembled (s .args .tone) (s .args .e) (s .args .a)
     (simp zreads at (l .latest-after .ensures))
     (f .flag-reason .ensures)
     (c .threshold-reason .ensures)

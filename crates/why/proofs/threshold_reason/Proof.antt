@@ -34,9 +34,9 @@ returns c =
     let o = old-fits s in
     let v = very-fits s in
     let d = adapt-fits s in
-    let w : c .way-taken .result ≡ wayTaken (s .args .acf0) (p .ptch .result) (s .args .stat) (s .args .s .adaptcount) = simp zreads at (c .way-taken .ensures) in
+    let w : c .way-taken .result ≡ wayTaken (s .args .acf0) (p .ptch .result) (s .args .stat) (s .args .tone) (s .args .s .adaptcount) = simp zreads at (c .way-taken .ensures) in
     let q : p .ptch .result ≡ ptchOf (s .args .s .oldlagcount) (s .args .s .veryoldlagcount) = simp zreads at (p .ptch .ensures) in
-    w ∙ ap (λ (b : Bool). wayTaken (s .args .acf0) b (s .args .stat) (s .args .s .adaptcount)) q
+    w ∙ ap (λ (b : Bool). wayTaken (s .args .acf0) b (s .args .stat) (s .args .tone) (s .args .s .adaptcount)) q
 
 pub threshold-reason-spec : {M : Type 1} → statement M
 threshold-reason-spec = tie.close (tie.spec ptch-requires way-taken-requires returns)

@@ -10,22 +10,26 @@ use Rattle.why_trace.proofs.tell_all.Statement.{statement}
 use Rattle.why_trace.proofs.tell_all.Tie as tie
 
 abbrev Inv-loop : tie.InvT-loop
-Inv-loop fd name piece₀ out₀ teller₀ turns₀ more₀ written₀ piece out teller turns more written = (length piece ≡ 4096) × (length out ≡ 167936)
+Inv-loop downlink trace trace-name sound sound-name piece₀ samples₀ out₀ teller₀ turns₀ more₀ ok₀ piece samples out teller turns more ok =
+    (length piece ≡ 1024) × (length samples ≡ 327680) × (length out ≡ 41984)
 
 abbrev μ-loop : tie.MeasureT-loop
-μ-loop fd name piece₀ out₀ teller₀ turns₀ more₀ written₀ piece out teller turns more written = turns
+μ-loop downlink trace trace-name sound sound-name piece₀ samples₀ out₀ teller₀ turns₀ more₀ ok₀ piece samples out teller turns more ok = turns
 
 start-requires : tie.Need-start-requires Inv-loop μ-loop
 start-requires c κs = search needs
 
 loop-holds : tie.Need-loop-holds Inv-loop μ-loop
-loop-holds c = (search needs, search needs)
+loop-holds c = (search needs, search needs, search needs)
 
 slice-aggregate-turn : tie.Need-slice-aggregate-turn Inv-loop μ-loop
 slice-aggregate-turn c = search needs
 
 slice-aggregate-turn-2 : tie.Need-slice-aggregate-turn-2 Inv-loop μ-loop
 slice-aggregate-turn-2 c = search needs
+
+slice-aggregate-turn-3 : tie.Need-slice-aggregate-turn-3 Inv-loop μ-loop
+slice-aggregate-turn-3 c = search needs
 
 turn-requires : tie.Need-turn-requires Inv-loop μ-loop
 turn-requires c κs = search needs
@@ -37,7 +41,7 @@ loop-less : tie.Need-loop-less Inv-loop μ-loop
 loop-less c = search needs
 
 loop-again : tie.Need-loop-again Inv-loop μ-loop
-loop-again c = (search needs, search needs)
+loop-again c = (search needs, search needs, search needs)
 
 returns : tie.Need-returns Inv-loop μ-loop
 returns c = search needs
@@ -74,6 +78,7 @@ tell-all-spec =
     loop-holds
     slice-aggregate-turn
     slice-aggregate-turn-2
+    slice-aggregate-turn-3
     turn-requires
     sub-turns
     loop-less

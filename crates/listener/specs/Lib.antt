@@ -1,0 +1,4 @@
+pub mod Said
+pub mod Run
+pub mod Fed
+pub mod Worked

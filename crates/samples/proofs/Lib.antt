@@ -1,0 +1,4 @@
+pub mod Pattern
+pub mod Bytes
+pub mod Frame
+pub mod Beside

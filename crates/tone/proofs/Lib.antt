@@ -1,0 +1,4 @@
+pub mod Largest
+pub mod Halves
+pub mod Small
+pub mod Exact

@@ -1,0 +1,22 @@
+-- `tone::greater` gives the greater of two numbers. Assumes nothing.
+use mathlib.Core.Path.{sym, _∙_}
+use mir.Facts.{toZ-ofZ}
+use Rattle.numbers.proofs.Read.{zreads}
+use Rattle.rows.proofs.Choice.{by-yes, by-no}
+use Rattle.tone.proofs.greater.Statement.{statement}
+use Rattle.tone.proofs.greater.Tie as tie
+
+returns : tie.Need-returns
+returns c =
+    let f = c .before .fits .x in
+    let g = c .before .fits .y in
+    toZ-ofZ g ∙ sym (by-yes _ _ (simp zreads at (c .if1 .taken)))
+
+returns-2 : tie.Need-returns-2
+returns-2 c =
+    let f = c .before .fits .x in
+    let g = c .before .fits .y in
+    toZ-ofZ f ∙ sym (by-no _ _ (simp zreads at (c .if1 .left)))
+
+pub greater-spec : {M : Type 1} → statement M
+greater-spec = tie.close (tie.spec returns returns-2)
