@@ -6,3 +6,4 @@ pub mod Meets
 pub mod Idle
 pub mod Lines
 pub mod Covered
+pub mod Tones
