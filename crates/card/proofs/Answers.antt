@@ -11,8 +11,8 @@ use lib.ListN.{length, set}
 use Rattle.rows.specs.Choice.{IF_THEN_ELSE_}
 use Rattle.rows.specs.Rows.{row}
 use Rattle.rows.proofs.Choice.{both, and-left, and-right, either}
+use Rattle.frames.specs.Frame.{Direction, samplesOk}
 use Rattle.detector.specs.declared.Answer.{Answer}
-use Rattle.detector.specs.Refusal.{Direction, samplesOk}
 use Rattle.detector.specs.Step.{answerFor}
 use Rattle.detector.proofs.Table.{accepted-0}
 use Rattle.detector.proofs.Keeps.{next-pointers}

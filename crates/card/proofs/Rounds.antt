@@ -15,10 +15,11 @@ use Rattle.numbers.proofs.Parts.{zarith, of}
 use Rattle.rows.specs.Choice.{IF_THEN_ELSE_, eqZ, within}
 use Rattle.rows.specs.Rows.{row, all}
 use Rattle.rows.proofs.Choice.{both}
+use Rattle.frames.specs.Frame.{Direction, samplesOk}
 use Rattle.state.specs.declared.State.{State}
 use Rattle.state.specs.Valid.{validOf, resetOf, Between, Valid, Shaped}
 use Rattle.state.proofs.Facts.{valid, between-back}
-use Rattle.detector.specs.Refusal.{Direction, samplesOk, refusalOf}
+use Rattle.detector.specs.Refusal.{refusalOf}
 use Rattle.detector.specs.Step.{answerFor}
 use Rattle.detector.proofs.Table.{number-0, accepted-0}
 use Rattle.detector.proofs.Keeps.{Numbers, step-keeps}

@@ -50,9 +50,11 @@ use Rattle.tone.specs.Autocorrelation.{smaxOf, scalautoOf, dynamicOf, L-acfhOf}
 use Rattle.tone.specs.Coefficients.{rcOf, a1Of, a2Of}
 use Rattle.tone.specs.Worked.{periods, four-hundred}
 use Rattle.tone.proofs.Small.{smax-range, scalauto-le}
+use Rattle.lags.specs.Lags.{lagOk}
+use Rattle.frames.specs.Frame.{Direction, up, down, lengthsOk, samplesOk, scaleOk, acfOk, lagsOk, frameRefusalOf}
 use Rattle.state.specs.declared.State.{State}
-use Rattle.state.specs.Valid.{pointerOk, sacfWithin, sacfOk, sav0Ok, weightOf, rvadOk, thvadOk, lagOk, countsOk, validOf, Between, Shaped, resetOf}
-use Rattle.detector.specs.Refusal.{Direction, up, down, lengthsOk, samplesOk, scaleOk, acfOk, lagsOk, frameRefusalOf, refusalOf}
+use Rattle.state.specs.Valid.{pointerOk, sacfWithin, sacfOk, sav0Ok, weightOf, rvadOk, thvadOk, countsOk, validOf, Between, Shaped, resetOf}
+use Rattle.detector.specs.Refusal.{refusalOf}
 use Rattle.detector.proofs.Keeps.{Numbers, accepted, kind, filter-ok, incoming, frames-was, frames-at-was, sums-was, sums-at-was}
 use Rattle.detector.specs.declared.Answer.{Answer}
 use Rattle.detector.specs.Step.{answerFor}

@@ -22,11 +22,12 @@ use Rattle.energy.specs.Exact.{exactOf}
 use Rattle.averages.specs.Averages.{inside, L-tempOf, L-av0Of, storedOf, nextOf, averageOf}
 use Rattle.threshold.specs.Threshold.{PLEV, adaptOf}
 use Rattle.hangover.specs.Hangover.{burstOf, runDownOf, startedOf, hangoverOf}
-use Rattle.lags.specs.Lags.{smallagOf, countedOf, onceOf, lagcountOf}
+use Rattle.lags.specs.Lags.{lagOk, smallagOf, countedOf, onceOf, lagcountOf}
+use Rattle.frames.specs.Frame.{up, lengthsOk, samplesOk, scaleOk, acfOk, lagsOk, frameRefusalOf}
 use Rattle.state.specs.declared.State.{State}
-use Rattle.state.specs.Valid.{pointerOk, sacfWithin, sacfOk, sav0Ok, weightOf, rvadOk, thvadOk, lagOk, countsOk, validOf, resetOf}
+use Rattle.state.specs.Valid.{pointerOk, sacfWithin, sacfOk, sav0Ok, weightOf, rvadOk, thvadOk, countsOk, validOf, resetOf}
 use Rattle.detector.specs.declared.Answer.{Answer}
-use Rattle.detector.specs.Refusal.{up, lengthsOk, samplesOk, scaleOk, acfOk, lagsOk, frameRefusalOf, refusalOf}
+use Rattle.detector.specs.Refusal.{refusalOf}
 use Rattle.detector.specs.Step.{spectralOf, acceptedOf, refusedOf, toneRead, toneKept, answerFor, stepOf}
 use Rattle.detector.proofs.Keeps.{Numbers, zeros-fit}
 use Rattle.demands.specs.Demands.{Demand3}

@@ -13,8 +13,8 @@ use lib.ListN.{length, replicate}
 use Rattle.rows.specs.Choice.{IF_THEN_ELSE_, within}
 use Rattle.rows.specs.Rows.{all}
 use Rattle.rows.proofs.Choice.{by-test, by-yes}
-use Rattle.state.specs.Valid.{lagOk}
-use Rattle.detector.specs.Refusal.{lengthsOk, scaleOk, acfOk, lagsOk, frameRefusalOf}
+use Rattle.lags.specs.Lags.{lagOk}
+use Rattle.frames.specs.Frame.{lengthsOk, scaleOk, acfOk, lagsOk, frameRefusalOf}
 use Rattle.detector.proofs.Keeps.{Numbers}
 use Rattle.lines.specs.Line.{Frame, frameOf, formedOf}
 use Rattle.lines.specs.Answers.{rangesOf, refusedOf, acceptedOf, checkedOf, decodedOf, headingOf, readOf, acfAfter, lagsAfter, writeOf, lineAfter}

@@ -10,11 +10,12 @@ use lib.IntN.{ℤ, pos}
 use lib.Signed.{_≤ℤ_}
 use Rattle.numbers.specs.Sum.{at}
 use Rattle.rows.proofs.Choice.{either}
+use Rattle.frames.specs.Frame.{Direction, samplesOk}
 use Rattle.state.specs.declared.State.{State}
 use Rattle.state.specs.Valid.{validOf, Shaped, resetOf}
 use Rattle.state.proofs.Facts.{reset-valid, reset-shaped}
 use Rattle.detector.specs.declared.Answer.{Answer}
-use Rattle.detector.specs.Refusal.{Direction, samplesOk, refusalOf}
+use Rattle.detector.specs.Refusal.{refusalOf}
 use Rattle.detector.specs.Step.{answerFor}
 use Rattle.detector.proofs.Table.{number-0, number-1, number-2, number-3, number-4, number-5, number-8, step-accepted, refused-answer, accepted-number}
 use Rattle.detector.proofs.Keeps.{Numbers, step-keeps}

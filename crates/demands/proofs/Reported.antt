@@ -18,11 +18,12 @@ use Rattle.pairs.proofs.Range.{Ranged}
 use Rattle.energy.specs.Energy.{acf0Of, filterSumOf, positive, pvadOf, energyOf}
 use Rattle.energy.specs.declared.Energies.{Energies}
 use Rattle.energy.proofs.Range.{Frame, Filter, positive-is, pvad-e, pvad-range, energy-is}
+use Rattle.frames.specs.Frame.{Direction, samplesOk}
 use Rattle.state.specs.declared.State.{State}
 use Rattle.state.specs.Valid.{Shaped, Valid}
 use Rattle.state.proofs.Facts.{valid}
 use Rattle.detector.specs.declared.Answer.{Answer}
-use Rattle.detector.specs.Refusal.{Direction, samplesOk, refusalOf}
+use Rattle.detector.specs.Refusal.{refusalOf}
 use Rattle.detector.specs.Step.{acceptedOf, toneRead, toneKept, answerFor}
 use Rattle.detector.proofs.Table.{number-0, step-accepted}
 use Rattle.detector.proofs.Keeps.{Numbers, Accepted, accepted, filter-ok, step-keeps}

@@ -11,11 +11,12 @@ use Rattle.rows.specs.Choice.{IF_THEN_ELSE_, within}
 use Rattle.rows.specs.Rows.{row, all}
 use Rattle.tone.specs.Tone.{flagOf}
 use Rattle.tone.specs.Worked.{periods, zeros, thousand, flags}
+use Rattle.lags.specs.Lags.{lagOk}
+use Rattle.frames.specs.Frame.{Direction, up, down, Frame, lengthsOk, samplesOk, scaleOk, acfOk, lagsOk, frameRefusalOf}
 use Rattle.state.specs.declared.State.{State}
-use Rattle.state.specs.Valid.{lagOk, validOf, resetOf}
-use Rattle.detector.specs.Refusal.{Direction, up, down, lengthsOk, samplesOk, scaleOk, acfOk, lagsOk, frameRefusalOf, refusalOf}
+use Rattle.state.specs.Valid.{validOf, resetOf}
+use Rattle.detector.specs.Refusal.{refusalOf}
 use Rattle.detector.specs.Step.{toneKept, stepOf, downlinkOf}
-use Rattle.detector.specs.Run.{Frame}
 use Rattle.detector.specs.Directions.{AllToneless, Unlearned}
 use Rattle.detector.proofs.Flags.{samples-later, nothing-learned}
 use Rattle.demands.specs.Worked.{forty}

@@ -32,9 +32,9 @@ use Rattle.threshold.specs.Threshold.{PTH, MARGIN, loweredOf}
 use Rattle.tone.specs.Window.{sofhOf}
 use Rattle.tone.specs.Autocorrelation.{smaxOf, scalautoOf, dynamicOf, L-acfhOf}
 use Rattle.tone.specs.Coefficients.{rcOf, a1Of, a2Of}
+use Rattle.frames.specs.Frame.{Direction, down}
 use Rattle.state.specs.declared.State.{State}
 use Rattle.state.specs.Valid.{Between}
-use Rattle.detector.specs.Refusal.{Direction, down}
 
 -- a division that document 01 covers: of 0 by anything, 0 included; of equal positive numbers; of a smaller by a larger
 pub record Divides (x y : ℤ) : Type 0 where

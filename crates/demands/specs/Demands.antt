@@ -20,10 +20,10 @@ use Rattle.rows.specs.Rows.{L-sum}
 use Rattle.pairs.specs.Pairs.{pair}
 use Rattle.energy.specs.Energy.{sacfOf}
 use Rattle.energy.specs.Exact.{exactOf}
+use Rattle.frames.specs.Frame.{Direction, lengthsOk, samplesOk, scaleOk, acfOk, lagsOk}
 use Rattle.state.specs.declared.State.{State}
 use Rattle.state.specs.Valid.{validOf, Shaped}
 use Rattle.detector.specs.declared.Answer.{Answer}
-use Rattle.detector.specs.Refusal.{Direction, lengthsOk, samplesOk, scaleOk, acfOk, lagsOk}
 use Rattle.detector.specs.Step.{acceptedOf, toneRead, toneKept}
 use Rattle.lines.specs.Line.{Frame, frameOf, formedOf}
 use Rattle.lines.specs.Answers.{readOf, acfAfter, lagsAfter, writeOf, lineAfter}

@@ -22,10 +22,11 @@ use Rattle.pairs.specs.declared.Pair.{Pair}
 use Rattle.pairs.specs.Pairs.{pair}
 use Rattle.energy.specs.Energy.{sacfOf, acf0Of, filterSumOf, positive, pvadOf, energyOf}
 use Rattle.hangover.specs.Hangover.{burstOf, runDownOf, startedOf, hangoverOf}
-use Rattle.lags.specs.Lags.{smallagOf, countedOf}
+use Rattle.lags.specs.Lags.{lagOk, smallagOf, countedOf}
 use Rattle.lags.specs.Worked as lags
-use Rattle.state.specs.Valid.{pointerOk, sacfWithin, sacfOk, sav0Ok, weightOf, rvadOk, thvadOk, lagOk, countsOk, validOf, resetOf}
-use Rattle.detector.specs.Refusal.{lengthsOk, samplesOk, scaleOk, acfOk, lagsOk, frameRefusalOf, refusalOf}
+use Rattle.frames.specs.Frame.{lengthsOk, samplesOk, scaleOk, acfOk, lagsOk, frameRefusalOf}
+use Rattle.state.specs.Valid.{pointerOk, sacfWithin, sacfOk, sav0Ok, weightOf, rvadOk, thvadOk, countsOk, validOf, resetOf}
+use Rattle.detector.specs.Refusal.{refusalOf}
 use Rattle.detector.specs.Step.{acceptedOf, refusedOf, toneRead, toneKept, answerFor, stepOf}
 use Rattle.demands.specs.Distance.{LOf, aOf, pOf}
 use Rattle.demands.specs.Worked.{acf, answer}

@@ -18,9 +18,11 @@ use Rattle.energy.specs.Energy.{sacfOf, acf0Of, filterSumOf, positive, pvadOf, 
 use Rattle.energy.specs.Exact.{exactOf}
 use Rattle.threshold.specs.Threshold.{adaptOf}
 use Rattle.hangover.specs.Hangover.{burstOf, runDownOf, startedOf, hangoverOf}
-use Rattle.state.specs.Valid.{pointerOk, sacfWithin, sacfOk, sav0Ok, weightOf, rvadOk, thvadOk, lagOk, countsOk, validOf, resetOf}
+use Rattle.lags.specs.Lags.{lagOk}
+use Rattle.frames.specs.Frame.{lengthsOk, samplesOk, scaleOk, acfOk, lagsOk, frameRefusalOf}
+use Rattle.state.specs.Valid.{pointerOk, sacfWithin, sacfOk, sav0Ok, weightOf, rvadOk, thvadOk, countsOk, validOf, resetOf}
 use Rattle.detector.specs.declared.Answer.{Answer}
-use Rattle.detector.specs.Refusal.{lengthsOk, samplesOk, scaleOk, acfOk, lagsOk, frameRefusalOf, refusalOf}
+use Rattle.detector.specs.Refusal.{refusalOf}
 use Rattle.detector.specs.Step.{acceptedOf, toneRead, toneKept, answerFor, stepOf}
 use Rattle.demands.specs.Distance.{EOf, energyUnits}
 

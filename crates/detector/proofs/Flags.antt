@@ -15,10 +15,11 @@ use Rattle.pairs.specs.Pairs.{greaterOf}
 use Rattle.tone.specs.Tone.{toneOf}
 use Rattle.threshold.specs.Threshold.{PTH, PLEV, adaptOf}
 use Rattle.threshold.specs.declared.Kept.{Kept}
+use Rattle.frames.specs.Frame.{Direction, up, down, samplesOk}
 use Rattle.state.specs.declared.State.{State}
 use Rattle.state.specs.Valid.{countsOk, validOf}
 use Rattle.detector.specs.declared.Answer.{Answer}
-use Rattle.detector.specs.Refusal.{Direction, up, down, samplesOk, refusalOf}
+use Rattle.detector.specs.Refusal.{refusalOf}
 use Rattle.detector.specs.Step.{spectralOf, acceptedOf, refusedOf, toneRead, toneKept, answerFor, stepOf}
 use Rattle.detector.specs.Run.{answerTo}
 use Rattle.detector.specs.Directions.{toned, uplinked, AllToneless, answersFrom, TonelessRun, NotRead, FlagNotRead, Alike, SamplesLater, Unlearned, NothingLearned}

@@ -24,10 +24,11 @@ use Rattle.predictor.specs.StepUp.{aav1Of}
 use Rattle.predictor.specs.Filter.{L-workOf}
 use Rattle.predictor.proofs.Predictor.{aav1-first, aav1-small}
 use Rattle.predictor.proofs.Autocorrelation.{work-exact}
+use Rattle.frames.specs.Frame.{Direction, samplesOk}
 use Rattle.state.specs.declared.State.{State}
 use Rattle.state.specs.Valid.{Shaped}
 use Rattle.detector.specs.declared.Answer.{Answer}
-use Rattle.detector.specs.Refusal.{Direction, samplesOk, refusalOf}
+use Rattle.detector.specs.Refusal.{refusalOf}
 use Rattle.detector.specs.Step.{acceptedOf, toneRead, toneKept, answerFor}
 use Rattle.detector.proofs.Table.{step-accepted}
 use Rattle.detector.proofs.Keeps.{Numbers, Accepted, accepted, kind, filter-ok, incoming, sound, frames-was, frames-at-was, sums-was, sums-at-was}

@@ -27,20 +27,23 @@ use Rattle.averages.specs.Averages.{LAST-SACF, LAST-SAV0, averageOf}
 use Rattle.averages.proofs.Pointers.{Pointer, next-pointer, average-inside}
 use Rattle.averages.proofs.Kept.{Kept27, Kept36, kept27, kept36, Incoming, average-keeps}
 use Rattle.predictor.proofs.Bounds.{predicted-whitening}
-use Rattle.lags.proofs.Range.{lagcount-le}
+use Rattle.lags.proofs.Range.{lag, lagcount-le}
 use Rattle.threshold.specs.declared.Kept.{Kept}
 use Rattle.threshold.specs.Threshold.{adaptOf}
 use Rattle.threshold.proofs.Range.{Sound, adapt-keeps, adapt-filter}
 use Rattle.hangover.specs.Hangover.{hangoverOf}
 use Rattle.hangover.proofs.Kept.{Counts, hangover-keeps}
+use Rattle.lags.specs.Lags.{lagOk}
+use Rattle.frames.specs.Frame.{Direction, samplesOk, scaleOk, acfOk, lagsOk}
+use Rattle.frames.proofs.Frame.{nine, four}
 use Rattle.state.specs.declared.State.{State}
-use Rattle.state.specs.Valid.{validOf, weightOf, lagOk, Between, Valid, Shaped}
-use Rattle.state.proofs.Facts.{valid, valid-back, between, le-fact, lag}
+use Rattle.state.specs.Valid.{validOf, weightOf, Between, Valid, Shaped}
+use Rattle.state.proofs.Facts.{valid, valid-back, between, le-fact}
 use Rattle.detector.specs.declared.Middle.{Middle}
 use Rattle.detector.specs.declared.Answer.{Answer}
-use Rattle.detector.specs.Refusal.{Direction, samplesOk, scaleOk, acfOk, lagsOk, refusalOf}
+use Rattle.detector.specs.Refusal.{refusalOf}
 use Rattle.detector.specs.Step.{spectralOf, acceptedOf, toneRead, toneKept, answerFor}
-use Rattle.detector.proofs.Table.{number-0, step-accepted, refused-answer, nine, four}
+use Rattle.detector.proofs.Table.{number-0, step-accepted, refused-answer}
 
 -- the lent numbers are of 32 bits
 abbrev pub Numbers : List ℤ → Type 0

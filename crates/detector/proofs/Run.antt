@@ -14,11 +14,12 @@ use Rattle.hangover.specs.declared.Hung.{Hung}
 use Rattle.hangover.specs.Hangover.{hangoverOf}
 use Rattle.hangover.specs.Bursts.{byPlace}
 use Rattle.hangover.proofs.Bursts.{hungAt, flagAt, with-is, more-hung}
+use Rattle.frames.specs.Frame.{Frame}
 use Rattle.state.specs.declared.State.{State}
 use Rattle.state.specs.Valid.{resetOf}
 use Rattle.detector.specs.declared.Answer.{Answer}
 use Rattle.detector.specs.Step.{acceptedOf}
-use Rattle.detector.specs.Run.{Frame, answerTo, stateFrom, acceptedFrom, flagsOf, rawsOf}
+use Rattle.detector.specs.Run.{answerTo, stateFrom, acceptedFrom, flagsOf, rawsOf}
 use Rattle.detector.proofs.Table.{accepted-0, accepted-number, step-accepted, refused-answer}
 
 -- ---- an accepted frame

@@ -11,10 +11,11 @@ use Rattle.rows.proofs.Choice.{either}
 use Rattle.hangover.specs.Bursts.{byPlace}
 use Rattle.hangover.proofs.Bursts.{flagAt, more-last, more-before, more-flag}
 use Rattle.hangover.proofs.Sentence.{spoken}
+use Rattle.frames.specs.Frame.{Frame}
 use Rattle.state.specs.declared.State.{State}
 use Rattle.state.specs.Valid.{resetOf}
 use Rattle.detector.specs.declared.Answer.{Answer}
-use Rattle.detector.specs.Run.{Frame, answerTo, flagsOf, rawsOf}
+use Rattle.detector.specs.Run.{answerTo, flagsOf, rawsOf}
 use Rattle.detector.specs.Sentence.{accepted, vad, vvad, HangoverSentence}
 use Rattle.detector.proofs.Run.{step-hangs, Counted, counted-start, flag-more, counted-more, raws-length, flags-length, raws-more, flags-more, kept}
 

@@ -42,11 +42,12 @@ use Rattle.threshold.specs.Threshold.{PTH, PLEV, adaptOf}
 use Rattle.threshold.specs.declared.Kept.{Kept}
 use Rattle.hangover.specs.Hangover.{hangoverOf}
 use Rattle.hangover.proofs.Kept.{quiet-flag}
+use Rattle.frames.specs.Frame.{Direction, Frame, samplesOk}
 use Rattle.state.specs.declared.State.{State}
 use Rattle.detector.specs.declared.Answer.{Answer}
-use Rattle.detector.specs.Refusal.{Direction, samplesOk, refusalOf}
+use Rattle.detector.specs.Refusal.{refusalOf}
 use Rattle.detector.specs.Step.{spectralOf, acceptedOf, toneRead, toneKept, answerFor}
-use Rattle.detector.specs.Run.{Frame, answerTo, stateFrom}
+use Rattle.detector.specs.Run.{answerTo, stateFrom}
 use Rattle.detector.specs.Silence.{zeros, nothing, SilentFrame, SilentFrames, NoSpectrums, Silence, Forgotten, EightForget, SteadyNext}
 use Rattle.detector.proofs.Table.{accepted-0, step-accepted}
 use Rattle.detector.proofs.Keeps.{Accepted, accepted}

@@ -13,10 +13,12 @@ use lib.ListN.{length}
 use Rattle.rows.specs.Choice.{IF_THEN_ELSE_}
 use Rattle.rows.proofs.Choice.{and-left, and-right, by-yes, by-no, by-test, either}
 use Rattle.pairs.specs.Pairs.{pair}
+use Rattle.frames.proofs.Frame.{frame-digit}
+use Rattle.frames.specs.Frame.{Direction, lengthsOk, samplesOk, scaleOk, acfOk, lagsOk, frameRefusalOf}
 use Rattle.state.specs.declared.State.{State}
 use Rattle.state.specs.Valid.{validOf}
 use Rattle.detector.specs.declared.Answer.{Answer}
-use Rattle.detector.specs.Refusal.{Direction, lengthsOk, samplesOk, scaleOk, acfOk, lagsOk, frameRefusalOf, refusalOf}
+use Rattle.detector.specs.Refusal.{refusalOf}
 use Rattle.detector.specs.Step.{acceptedOf, refusedOf, toneRead, toneKept, answerFor}
 
 -- ---- the table over its six tests
@@ -174,16 +176,6 @@ accepted-0 d L-ACF lags scalvad s e =
     (λ t. sym (refused-answer d L-ACF lags scalvad s (eqb-false (refusalOf (samplesOk d) L-ACF lags scalvad s) 0 t) .numbered) ∙ e)
 
 -- ---- a number is a digit
-pub frame-digit : (L-ACF : List ℤ) (lags : List ℕ) (scalvad : ℤ) → frameRefusalOf L-ACF lags scalvad < 10
-unfolding frameRefusalOf IF_THEN_ELSE_
-frame-digit L-ACF lags scalvad = go (scaleOk scalvad) (acfOk L-ACF) (lagsOk lags)
-  where
-    go : (c d e : Bool) → (IF c THEN IF d THEN IF e THEN 0 ELSE 4 ELSE 3 ELSE 2) < 10
-    go false d e = omega arith
-    go true false e = omega arith
-    go true true false = omega arith
-    go true true true = omega arith
-
 refusal-digit : (samples : Bool) (L-ACF : List ℤ) (lags : List ℕ) (scalvad : ℤ) (s : State) → refusalOf samples L-ACF lags scalvad s < 10
 unfolding refusalOf
 refusal-digit samples L-ACF lags scalvad s =
@@ -196,12 +188,3 @@ pub answer-digit : (d : Direction) (L-ACF : List ℤ) (lags : List ℕ) (scalvad
 unfolding answerFor acceptedOf refusedOf
 answer-digit d L-ACF lags scalvad s =
     by-test (λ (r : Answer). r .refusal < 10) (eqb (refusalOf (samplesOk d) L-ACF lags scalvad s) 0) _ _ (λ t. omega arith) (λ t. refusal-digit (samplesOk d) L-ACF lags scalvad s)
-
--- ---- what an accepted frame is
-pub nine : (L-ACF : List ℤ) (lags : List ℕ) → lengthsOk L-ACF lags ≡ true → length L-ACF ≡ 9
-unfolding lengthsOk
-nine L-ACF lags t = eqb-true (length L-ACF) 9 (and-left (eqb (length L-ACF) 9) (eqb (length lags) 4) t)
-
-pub four : (L-ACF : List ℤ) (lags : List ℕ) → lengthsOk L-ACF lags ≡ true → length lags ≡ 4
-unfolding lengthsOk
-four L-ACF lags t = eqb-true (length lags) 4 (and-right (eqb (length L-ACF) 9) (eqb (length lags) 4) t)

@@ -9,11 +9,11 @@ use lib.IntN.{ℤ}
 use lib.ListN.{length}
 use Rattle.tone.specs.Tone.{toneOf}
 use Rattle.threshold.specs.Threshold.{PLEV}
+use Rattle.frames.specs.Frame.{up, Frame, samplesOk}
 use Rattle.state.specs.declared.State.{State}
 use Rattle.detector.specs.declared.Answer.{Answer}
-use Rattle.detector.specs.Refusal.{up, samplesOk}
 use Rattle.detector.specs.Step.{toneKept, stepOf, downlinkOf}
-use Rattle.detector.specs.Run.{Frame, answerTo}
+use Rattle.detector.specs.Run.{answerTo}
 
 -- the same state with another flag
 unfoldable pub toned : Bool → State → State

@@ -5,17 +5,10 @@ use Prim.Native.Nat.{ℕ}
 use lib.Dec.{eqb}
 use lib.IntN.{ℤ}
 use Rattle.rows.specs.Choice.{IF_THEN_ELSE_}
+use Rattle.frames.specs.Frame.{Frame}
 use Rattle.state.specs.declared.State.{State}
 use Rattle.detector.specs.declared.Answer.{Answer}
-use Rattle.detector.specs.Refusal.{Direction}
 use Rattle.detector.specs.Step.{answerFor}
-
--- a frame as it is lent: on the downlink with its samples. Frames of both directions may follow each other
-pub record Frame : Type 0 where
-  pub direction : Direction
-  pub L-ACF : List ℤ
-  pub lags : List ℕ
-  pub scalvad : ℤ
 
 unfoldable pub answerTo : State → Frame → Answer
 answerTo s f = answerFor (f .direction) (f .L-ACF) (f .lags) (f .scalvad) s

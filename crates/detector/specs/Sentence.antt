@@ -7,9 +7,10 @@ use Prim.Native.Nat.{ℕ, _<_}
 use lib.ListN.{length}
 use Rattle.hangover.specs.Bursts.{byPlace}
 use Rattle.hangover.specs.Sentence.{Sentence}
+use Rattle.frames.specs.Frame.{Frame}
 use Rattle.state.specs.Valid.{resetOf}
 use Rattle.detector.specs.declared.Answer.{Answer}
-use Rattle.detector.specs.Run.{Frame, acceptedFrom, flagsOf, rawsOf}
+use Rattle.detector.specs.Run.{acceptedFrom, flagsOf, rawsOf}
 
 -- the answers of `step` to the accepted ones of some frames: to all of them, if each is accepted
 unfoldable pub accepted : List Frame → List Answer

@@ -19,13 +19,14 @@ use Rattle.predictor.specs.declared.Filter.{Filter}
 use Rattle.spectrum.specs.Spectrum.{sav0Of, compareOf}
 use Rattle.spectrum.specs.declared.Compared.{Compared}
 use Rattle.threshold.specs.Threshold.{PLEV}
+use Rattle.frames.specs.Frame.{Direction, Frame, samplesOk}
 use Rattle.state.specs.declared.State.{State}
 use Rattle.state.specs.Valid.{Shaped}
 use Rattle.detector.specs.declared.Middle.{Middle}
 use Rattle.detector.specs.declared.Answer.{Answer}
-use Rattle.detector.specs.Refusal.{Direction, samplesOk, refusalOf}
+use Rattle.detector.specs.Refusal.{refusalOf}
 use Rattle.detector.specs.Step.{answeredOf, toneRead, toneKept, answerFor}
-use Rattle.detector.specs.Run.{Frame, answerTo, stateFrom}
+use Rattle.detector.specs.Run.{answerTo, stateFrom}
 
 -- nine numbers that are all 0
 abbrev pub zeros : List ℤ

@@ -17,10 +17,11 @@ use Rattle.threshold.specs.Threshold.{adaptOf}
 use Rattle.threshold.specs.declared.Kept.{Kept}
 use Rattle.hangover.specs.Hangover.{hangoverOf}
 use Rattle.tone.specs.Tone.{toneOf}
+use Rattle.frames.specs.Frame.{Direction, up, down, samplesOk}
 use Rattle.state.specs.declared.State.{State}
 use Rattle.detector.specs.declared.Middle.{Middle}
 use Rattle.detector.specs.declared.Answer.{Answer}
-use Rattle.detector.specs.Refusal.{Direction, up, down, samplesOk, refusalOf}
+use Rattle.detector.specs.Refusal.{refusalOf}
 
 -- 6.2, 6.3 and 6.4, which run for every accepted frame: the exit of 6.1 at an all-zero frame goes on with them
 unfoldable pub spectralOf : List ℤ → ℤ → State → Middle

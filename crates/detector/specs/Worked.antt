@@ -24,12 +24,13 @@ use Rattle.spectrum.specs.Spectrum.{sav0Of, L-ΣpOf, sizeOf, quotientOf, divide
 use Rattle.threshold.specs.Threshold.{adaptOf}
 use Rattle.hangover.specs.Hangover.{burstOf, runDownOf, startedOf, hangoverOf}
 use Rattle.hangover.specs.Sentence.{bits}
-use Rattle.lags.specs.Lags.{ptchOf, smallagOf, countedOf, onceOf, lagcountOf}
-use Rattle.state.specs.Valid.{pointerOk, sacfWithin, sacfOk, sav0Ok, weightOf, rvadOk, thvadOk, lagOk, countsOk, validOf, resetOf}
+use Rattle.lags.specs.Lags.{lagOk, ptchOf, smallagOf, countedOf, onceOf, lagcountOf}
+use Rattle.frames.specs.Frame.{up, Frame, lengthsOk, samplesOk, scaleOk, acfOk, lagsOk, frameRefusalOf}
+use Rattle.state.specs.Valid.{pointerOk, sacfWithin, sacfOk, sav0Ok, weightOf, rvadOk, thvadOk, countsOk, validOf, resetOf}
 use Rattle.detector.specs.declared.Answer.{Answer}
-use Rattle.detector.specs.Refusal.{up, lengthsOk, samplesOk, scaleOk, acfOk, lagsOk, frameRefusalOf, refusalOf}
+use Rattle.detector.specs.Refusal.{refusalOf}
 use Rattle.detector.specs.Step.{spectralOf, acceptedOf, refusedOf, toneRead, toneKept, answerFor}
-use Rattle.detector.specs.Run.{Frame, answerTo, stateFrom, acceptedFrom, flagsOf, rawsOf}
+use Rattle.detector.specs.Run.{answerTo, stateFrom, acceptedFrom, flagsOf, rawsOf}
 use Rattle.detector.specs.Sentence.{accepted}
 
 -- L_ACF is x and then zeros, at scale 0, with four lags of 40

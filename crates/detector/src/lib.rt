@@ -3,35 +3,29 @@ ghost use mathlib.Core.Bool.{false};
 ghost use mathlib.Core.Path.{_≡_};
 ghost use Rattle.rows.specs.Choice.{IF_THEN_ELSE_};
 ghost use Rattle.tone.specs.Tone.{flagOf};
+ghost use Rattle.frames.specs.Frame.{directionOf};
 ghost use Rattle.detector.specs.Refusal as table;
 ghost use Rattle.detector.specs.Step as clause;
 use averages::average;
 use energy::energy;
+use frames::LAGS;
+use frames::NUMBERS;
+use frames::SAMPLES;
+use frames::frame_refusal;
 use hangover::hangover;
 use lags::lagcount;
 use lags::ptch;
-use operations::magnitude;
 use pairs::Pair;
 use pairs::greater;
 use predictor::predicted;
 use rows::four;
 use rows::nine;
-use rows::short_within;
 use spectrum::compare;
 use state::State;
-use state::lag_ok;
 use state::state_ok;
 use threshold::Kept;
 use threshold::adapt;
 use tone::tone;
-
-// A frame's autocorrelations and lags, as many as are lent.
-pub const NUMBERS: usize = 9;
-
-pub const LAGS: usize = 4;
-
-// The samples of a downlink frame.
-pub const SAMPLES: usize = 160;
 
 // The answer to a frame; `stat` is what 6.4 finds in it.
 pub struct Answer {
@@ -57,51 +51,6 @@ struct Middle {
 }
 
 // ---- refusals
-
-// Whether no number is larger in magnitude than the first, which is not negative.
-fn acf_ok(acf: [i32; 9]) -> bool
-    ensures { λ r. ⌜ r ≡ table.acfOk acf ⌝ }
-{
-    let first = acf[0];
-    if first < 0 {
-        return false;
-    }
-    let top = first as u32;
-    for i in 0..9 {
-        if magnitude(acf[i]) > top {
-            return false;
-        }
-    }
-    true
-}
-
-// Whether each lag is one of 40..120.
-fn lags_ok(lags: [u16; 4]) -> bool
-    ensures { λ r. ⌜ r ≡ table.lagsOk lags ⌝ }
-{
-    for i in 0..4 {
-        if !lag_ok(lags[i]) {
-            return false;
-        }
-    }
-    true
-}
-
-// The refusal number of a frame by itself, 0 for one that can be accepted.
-pub fn frame_refusal(acf: [i32; 9], lags: [u16; 4], scalvad: i16) -> u8
-    ensures { λ r. ⌜ r ≡ table.frameRefusalOf acf lags scalvad ⌝ }
-{
-    if !short_within(0, 4, scalvad) {
-        return 2;
-    }
-    if !acf_ok(acf) {
-        return 3;
-    }
-    if lags_ok(lags) {
-        return 0;
-    }
-    4
-}
 
 // The refusal number of a frame and a state, 0 for a frame that is accepted; `samples` says that it has those of its direction.
 fn refusal(samples: bool, acf: &[i32], lags: &[u16], scalvad: i16, s: State) -> u8
@@ -276,7 +225,7 @@ pub fn frame(
     sof: &[i16],
     s: State,
 ) -> Answer
-    ensures { λ r. ⌜ r ≡ clause.answerFor (table.directionOf downlink (now (sof .entry))) (now (acf .entry)) (now (lags .entry)) scalvad s ⌝ }
+    ensures { λ r. ⌜ r ≡ clause.answerFor (directionOf downlink (now (sof .entry))) (now (acf .entry)) (now (lags .entry)) scalvad s ⌝ }
 {
     let number = refusal(!downlink | (sof.len() == SAMPLES), acf, lags, scalvad, s);
     if number == 0 {

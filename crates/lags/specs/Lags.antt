@@ -1,11 +1,15 @@
--- Clause 6.5, periodicity detection, and clause 6.9, periodicity updating. Lags are numbers that are not negative. Assumes nothing.
-use mathlib.Core.Bool.{Bool}
+-- Document 01's range of a lag, clause 6.5, periodicity detection, and clause 6.9, periodicity updating. Lags are numbers that are not negative. Assumes nothing.
+use mathlib.Core.Bool.{Bool, _&&_}
 use mathlib.Core.List.{List, [], _∷_}
 use Prim.Native.Nat.{ℕ, _+_, _-_, _%_, max, min}
 use lib.Dec.{ltb, leb}
 use lib.IntN.{ℤ, pos, _+ℤ_}
 use lib.Signed.{leZ}
 use Rattle.rows.specs.Choice.{IF_THEN_ELSE_}
+
+-- not "a lag outside 40..120"
+unfoldable pub lagOk : ℕ → Bool
+lagOk lag = leb 40 lag && leb lag 120
 
 -- 6.5: ptch holds exactly if oldlagcount + veryoldlagcount ≥ 4 (document 01; the clause's sum of two such counts never saturates)
 unfoldable pub ptchOf : ℤ → ℤ → Bool

@@ -1,8 +1,18 @@
-// Clauses 6.5 and 6.9: how often a lag of the frame is near a multiple of the one before it.
+// The range of a lag; and clauses 6.5 and 6.9: how often a lag of the frame is near a multiple of the one before it.
 ghost use mathlib.Core.Path.{_≡_};
 ghost use lib.IntN.{pos};
-ghost use Rattle.lags.specs.Lags.{ptchOf, smallagOf, countedOf, onceOf, lagcountOf};
+ghost use Rattle.lags.specs.Lags.{lagOk, ptchOf, smallagOf, countedOf, onceOf, lagcountOf};
 use rows::lesser;
+
+// Whether a lag is one of 40..120.
+pub fn lag_ok(lag: u16) -> bool
+    ensures { λ r. ⌜ r ≡ lagOk lag ⌝ }
+{
+    if 40 <= lag {
+        return lag <= 120;
+    }
+    false
+}
 
 // 6.5: whether the two frames before were periodic.
 pub fn ptch(oldlagcount: i16, veryoldlagcount: i16) -> bool

@@ -10,8 +10,8 @@ use lib.IntN.{ℤ}
 use lib.ListN.{length}
 use Rattle.rows.specs.Choice.{IF_THEN_ELSE_}
 use Rattle.rows.proofs.Choice.{either, by-yes, by-no, by-test}
-use Rattle.detector.specs.Refusal.{lengthsOk}
-use Rattle.detector.proofs.Table.{frame-digit}
+use Rattle.frames.specs.Frame.{lengthsOk}
+use Rattle.frames.proofs.Frame.{frame-digit}
 use Rattle.lines.specs.Line.{Frame, frameOf, lineOf, formedOf}
 use Rattle.lines.specs.Answers.{rangesOf, refusedOf, acceptedOf, checkedOf, decodedOf, headingOf, readOf, acfAfter, lagsAfter, writeOf, lineAfter}
 use Rattle.lines.specs.declared.Decoded.{Decoded}

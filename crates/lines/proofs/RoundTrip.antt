@@ -22,9 +22,9 @@ use Rattle.rows.specs.Rows.{row, all}
 use Rattle.rows.proofs.All.{all-at}
 use Rattle.rows.proofs.Choice.{and-left, and-right, either}
 use Rattle.rows.proofs.Fill.{length-row}
-use Rattle.state.specs.Valid.{lagOk}
-use Rattle.detector.specs.Refusal.{lengthsOk, scaleOk, acfOk, lagsOk, frameRefusalOf}
-use Rattle.detector.proofs.Table.{nine, four}
+use Rattle.lags.specs.Lags.{lagOk}
+use Rattle.frames.specs.Frame.{lengthsOk, scaleOk, acfOk, lagsOk, frameRefusalOf}
+use Rattle.frames.proofs.Frame.{nine, four}
 use Rattle.lines.specs.Hex.{hexOf, numberOf, digitsOf, blocksOf}
 use Rattle.lines.specs.Line.{Frame, fieldAt, wordAt, frameOf, lineOf, formedOf}
 use Rattle.lines.specs.Answers.{rangesOf, refusedOf, acceptedOf, decodedOf, headingOf, readOf, acfAfter, lagsAfter, writeOf, lineAfter}

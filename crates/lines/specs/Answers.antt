@@ -7,7 +7,7 @@ use lib.Dec.{eqb}
 use lib.IntN.{ℤ, pos}
 use lib.ListN.{length, replicate}
 use Rattle.rows.specs.Choice.{IF_THEN_ELSE_}
-use Rattle.detector.specs.Refusal.{lengthsOk, frameRefusalOf}
+use Rattle.frames.specs.Frame.{lengthsOk, frameRefusalOf}
 use Rattle.lines.specs.Line.{Frame, LINE, frameOf, lineOf, formedOf}
 use Rattle.lines.specs.declared.Decoded.{Decoded}
 use Rattle.lines.specs.declared.Heading.{Heading}

@@ -4,8 +4,7 @@ use mathlib.Core.List.{List, [], _∷_}
 use Prim.Native.Nat.{ℕ}
 use lib.Dec.{eqb}
 use Rattle.rows.specs.Choice.{IF_THEN_ELSE_}
-use Rattle.detector.specs.Refusal.{up}
-use Rattle.detector.specs.Run.{Frame}
+use Rattle.frames.specs.Frame.{up, Frame}
 use Rattle.lines.specs.Answers.{decodedOf}
 
 unfoldable pub frameIn : List ℕ → Frame

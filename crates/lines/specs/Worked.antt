@@ -7,8 +7,8 @@ use lib.IntN.{pos}
 use lib.ListN.{replicate}
 use Rattle.rows.specs.Choice.{IF_THEN_ELSE_, within}
 use Rattle.rows.specs.Rows.{row, all}
-use Rattle.state.specs.Valid.{lagOk}
-use Rattle.detector.specs.Refusal.{scaleOk, acfOk, lagsOk, frameRefusalOf}
+use Rattle.lags.specs.Lags.{lagOk}
+use Rattle.frames.specs.Frame.{scaleOk, acfOk, lagsOk, frameRefusalOf}
 use Rattle.lines.specs.Hex.{valueOf, hexOf, digitOf, numberFrom, numberOf, digitsOf, blocksOf}
 use Rattle.lines.specs.Line.{Frame, fieldAt, wordAt, frameOf, lineOf, formedOf}
 use Rattle.lines.specs.Answers.{rangesOf, refusedOf, acceptedOf, checkedOf, decodedOf}

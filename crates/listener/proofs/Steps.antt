@@ -8,12 +8,12 @@ use lib.Dec.{eqb}
 use lib.ListN.{length, take, drop, length-drop}
 use Rattle.rows.specs.Choice.{IF_THEN_ELSE_}
 use Rattle.rows.proofs.Choice.{by-test}
+use Rattle.frames.specs.Frame.{down}
 use Rattle.lines.specs.declared.Decoded.{Decoded}
 use Rattle.lines.specs.Answers.{decodedOf, refusedOf}
 use Rattle.lines.proofs.Answers.{decoded-digit}
 use Rattle.lines.proofs.Malformed.{decoded-cut, decoded-short}
 use Rattle.state.specs.declared.State.{State}
-use Rattle.detector.specs.Refusal.{down}
 use Rattle.detector.specs.Step.{downlinkOf}
 use Rattle.detector.proofs.Table.{answer-digit}
 use Rattle.pieces.specs.Lines.{plainOf, short}

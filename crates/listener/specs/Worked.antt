@@ -4,8 +4,10 @@ use mathlib.Core.List.{List, [], _∷_}
 use Prim.Native.Nat.{ℕ}
 use Rattle.rows.specs.Choice.{IF_THEN_ELSE_, within}
 use Rattle.rows.specs.Rows.{row, all}
+use Rattle.lags.specs.Lags.{lagOk}
+use Rattle.frames.specs.Frame.{lengthsOk, samplesOk, scaleOk, acfOk, lagsOk, frameRefusalOf}
 use Rattle.state.specs.declared.State.{State}
-use Rattle.state.specs.Valid.{lagOk, resetOf}
+use Rattle.state.specs.Valid.{resetOf}
 use Rattle.pieces.specs.Lines.{onFirst, linesOf}
 use Rattle.pieces.specs.Pieces.{stateAfter, textAfter}
 use Rattle.lines.specs.Hex.{valueOf, hexOf, numberFrom, numberOf}
@@ -14,7 +16,7 @@ use Rattle.lines.specs.Answers.{rangesOf, refusedOf, acceptedOf, checkedOf, dec
 use Rattle.lines.specs.Worked as lines
 use Rattle.samples.specs.Samples.{samplesOf, sofOf}
 use Rattle.samples.specs.Beside.{blockOf, nextBeside, textBeside}
-use Rattle.detector.specs.Refusal.{lengthsOk, samplesOk, scaleOk, acfOk, lagsOk, frameRefusalOf, refusalOf}
+use Rattle.detector.specs.Refusal.{refusalOf}
 use Rattle.detector.specs.Step as detector
 use Rattle.listener.specs.Said.{saidOf, steppedOf, deniedOf, textOf, flagOf}
 use Rattle.listener.specs.Run.{nextOf, replyOf, answerOf, stateOf, answersOf, runOf}

@@ -1,7 +1,7 @@
 // A night's totals: for standard input, or for each file that is named, in their order, the line of its report on standard output.
 ghost use Rattle.io.specs.Counts.{Counts};
+use counts::Counted;
 use files::Input;
-use totals::Counted;
 use totals::Night;
 
 // What a turn leaves: whether the input goes on, whether it could not be read, and the night so far.

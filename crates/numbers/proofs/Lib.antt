@@ -1,4 +1,5 @@
 pub mod Parts
+pub mod Signs
 pub mod Poly
 pub mod Read
 pub mod Magnitude

@@ -8,7 +8,10 @@ use lib.ListN.{replicate}
 use Rattle.rows.specs.Choice.{IF_THEN_ELSE_, within}
 use Rattle.rows.specs.Rows.{row, all}
 use Rattle.hangover.specs.Sentence.{bits}
-use Rattle.state.specs.Valid.{lagOk, resetOf}
+use Rattle.lags.specs.Lags.{lagOk}
+use Rattle.counts.specs.declared.Reply.{Reply}
+use Rattle.frames.specs.Frame.{Frame, scaleOk, acfOk, lagsOk, frameRefusalOf}
+use Rattle.state.specs.Valid.{resetOf}
 use Rattle.pieces.specs.Lines.{onFirst, linesOf}
 use Rattle.pieces.specs.Pieces.{flat}
 use Rattle.lines.specs.Hex.{valueOf, hexOf, numberFrom, numberOf}
@@ -17,11 +20,9 @@ use Rattle.lines.specs.Answers.{rangesOf, refusedOf, acceptedOf, checkedOf, dec
 use Rattle.lines.specs.Frames.{frameIn, framesOf}
 use Rattle.lines.specs.Worked as lines
 use Rattle.detector.specs.declared.Answer.{Answer}
-use Rattle.detector.specs.Refusal.{scaleOk, acfOk, lagsOk, frameRefusalOf}
-use Rattle.detector.specs.Run.{Frame, acceptedFrom, flagsOf, rawsOf}
+use Rattle.detector.specs.Run.{acceptedFrom, flagsOf, rawsOf}
 use Rattle.detector.specs.Sentence as detector
 use Rattle.detector.specs.Worked.{loud, quiet, Answered, table}
-use Rattle.runner.specs.declared.Reply.{Reply}
 use Rattle.runner.specs.Said.{steppedOf}
 use Rattle.runner.specs.Run.{repliesOf}
 use Rattle.runner.specs.Sentence.{accepted}

@@ -10,6 +10,8 @@ use lib.ListN.{length, length-map}
 use Rattle.rows.proofs.Choice.{by-yes, by-no, by-test, either}
 use Rattle.hangover.specs.Bursts.{byPlace}
 use Rattle.hangover.specs.Sentence.{Sentence}
+use Rattle.counts.specs.declared.Reply.{Reply}
+use Rattle.frames.specs.Frame.{Frame}
 use Rattle.state.specs.declared.State.{State}
 use Rattle.state.specs.Valid.{resetOf}
 use Rattle.pieces.specs.Lines.{linesOf}
@@ -20,11 +22,10 @@ use Rattle.lines.proofs.Answers.{accepted-formed}
 use Rattle.lines.proofs.Whole.{formed-line}
 use Rattle.lines.proofs.Frames.{frames-yes, frames-no}
 use Rattle.detector.specs.declared.Answer.{Answer}
-use Rattle.detector.specs.Run.{Frame, answerTo, acceptedFrom, flagsOf, rawsOf}
+use Rattle.detector.specs.Run.{answerTo, acceptedFrom, flagsOf, rawsOf}
 use Rattle.detector.specs.Sentence as detector
 use Rattle.detector.proofs.Run.{accepted-more, refused-more, as-given}
 use Rattle.detector.proofs.Sentence.{hangover-sentence}
-use Rattle.runner.specs.declared.Reply.{Reply}
 use Rattle.runner.specs.declared.Said.{Said}
 use Rattle.runner.specs.Said.{saidOf, steppedOf, deniedOf}
 use Rattle.runner.specs.Run.{nextOf, replyOf, repliesFrom, repliesOf}

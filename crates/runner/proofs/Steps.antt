@@ -8,17 +8,17 @@ use lib.Dec.{eqb}
 use lib.ListN.{length}
 use Rattle.rows.specs.Choice.{IF_THEN_ELSE_}
 use Rattle.rows.proofs.Choice.{by-test}
+use Rattle.counts.specs.declared.Reply.{Reply}
+use Rattle.frames.specs.Frame.{up}
 use Rattle.lines.specs.Line.{LINE}
 use Rattle.lines.specs.declared.Decoded.{Decoded}
 use Rattle.lines.specs.Answers.{decodedOf, refusedOf}
 use Rattle.lines.proofs.Answers.{decoded-digit}
 use Rattle.lines.proofs.Malformed.{decoded-long, decoded-cut, decoded-short}
 use Rattle.state.specs.declared.State.{State}
-use Rattle.detector.specs.Refusal.{up}
 use Rattle.detector.specs.Step.{stepOf}
 use Rattle.detector.proofs.Table.{answer-digit}
 use Rattle.pieces.specs.Lines.{plainOf, short}
-use Rattle.runner.specs.declared.Reply.{Reply}
 use Rattle.runner.specs.declared.Said.{Said}
 use Rattle.runner.specs.Said.{saidOf, deniedOf, steppedOf, textOf}
 use Rattle.runner.specs.Run.{replyOf, answerOf}

@@ -4,11 +4,11 @@
 -- this list's text. Assumes nothing.
 use mathlib.Core.List.{List, [], _∷_, _++_}
 use Prim.Native.Nat.{ℕ}
+use Rattle.counts.specs.declared.Reply.{Reply}
 use Rattle.state.specs.declared.State.{State}
 use Rattle.state.specs.Valid.{resetOf}
 use Rattle.pieces.specs.Lines.{linesOf}
 use Rattle.pieces.specs.Pieces.{stateAfter, textAfter}
-use Rattle.runner.specs.declared.Reply.{Reply}
 use Rattle.runner.specs.Said.{saidOf, textOf}
 
 -- one line: the state for the next, its answer, and what is written

@@ -6,11 +6,11 @@ use mathlib.Core.List.{List, [], _∷_}
 use Prim.Native.Nat.{ℕ, _+_}
 use lib.Dec.{eqb}
 use Rattle.rows.specs.Choice.{IF_THEN_ELSE_}
+use Rattle.counts.specs.declared.Reply.{Reply}
 use Rattle.lines.specs.Answers.{decodedOf}
 use Rattle.state.specs.declared.State.{State}
 use Rattle.detector.specs.declared.Answer.{Answer}
 use Rattle.detector.specs.Step.{stepOf}
-use Rattle.runner.specs.declared.Reply.{Reply}
 use Rattle.runner.specs.declared.Said.{Said}
 
 -- a line whose frame went to the detector

@@ -10,11 +10,11 @@ use lib.ListN.{length}
 use Rattle.rows.specs.Choice.{IF_THEN_ELSE_}
 use Rattle.hangover.specs.Bursts.{byPlace}
 use Rattle.hangover.specs.Sentence.{Sentence}
+use Rattle.counts.specs.declared.Reply.{Reply}
 use Rattle.state.specs.declared.State.{State}
 use Rattle.state.specs.Valid.{resetOf}
 use Rattle.pieces.specs.Lines.{linesOf}
 use Rattle.pieces.specs.Pieces.{flat}
-use Rattle.runner.specs.declared.Reply.{Reply}
 use Rattle.runner.specs.Run.{nextOf, replyOf, repliesOf}
 
 -- the answers to a trace that are accepted

@@ -7,6 +7,7 @@ ghost use Rattle.pieces.specs.Put.{putOf};
 ghost use Rattle.runner.specs.Said as one;
 ghost use Rattle.runner.specs.Run as run;
 ghost use Rattle.runner.specs.Fed as piece;
+use counts::Reply;
 use pieces::Finder;
 use state::State;
 
@@ -36,13 +37,6 @@ pub struct Fed {
 pub struct Last {
     pub wrote: usize,
     pub text: [u8; ANSWER],
-}
-
-// The answer to a line: its refusal number, vad and vvad.
-pub struct Reply {
-    pub refusal: u8,
-    pub vad: bool,
-    pub vvad: bool,
 }
 
 // What a line is answered, and the state for the next one.

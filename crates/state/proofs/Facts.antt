@@ -15,8 +15,10 @@ use Rattle.rows.specs.Rows.{row, all}
 use Rattle.rows.proofs.Choice.{and-left, and-right, both, either, within-ends}
 use Rattle.rows.proofs.All.{all-at, all-each}
 use Rattle.pairs.specs.declared.Pair.{Pair}
+use Rattle.lags.specs.Lags.{lagOk}
+use Rattle.lags.proofs.Range.{lag, lag-back}
 use Rattle.state.specs.declared.State.{State}
-use Rattle.state.specs.Valid.{pointerOk, sacfWithin, sacfOk, sav0Ok, weightOf, rvadOk, thvadOk, lagOk, countsOk, validOf, Between, Valid, Shaped, resetOf}
+use Rattle.state.specs.Valid.{pointerOk, sacfWithin, sacfOk, sav0Ok, weightOf, rvadOk, thvadOk, countsOk, validOf, Between, Valid, Shaped, resetOf}
 
 -- ---- one test and one fact
 pub le-fact : (a b : ℤ) → leZ a b ≡ true → a ≤ℤ b
@@ -106,14 +108,6 @@ thvad p t =
 thvad-back : (p : Pair) → Between (pos 16384) (pos 32767) (p .m) → Between (negsuc 31) (pos 64) (p .e) → thvadOk p ≡ true
 unfolding thvadOk
 thvad-back p h k = both (between-back (pos 16384) (pos 32767) (p .m) h) (between-back (negsuc 31) (pos 64) (p .e) k)
-
-pub lag : (n : ℕ) → lagOk n ≡ true → (40 ≤ n) × (n ≤ 120)
-unfolding lagOk
-lag n t = let a = two (leb 40 n) (leb n 120) t in (leb-true 40 n (a .0), leb-true n 120 (a .1))
-
-pub lag-back : (n : ℕ) → (40 ≤ n) × (n ≤ 120) → lagOk n ≡ true
-unfolding lagOk
-lag-back n h = both (le-leb 40 n (h .0)) (le-leb n 120 (h .1))
 
 -- ---- the whole
 pub valid : (s : State) → validOf s ≡ true → Valid s

@@ -13,6 +13,7 @@ use Rattle.rows.specs.Choice.{within}
 use Rattle.rows.specs.Rows.{row, all}
 use Rattle.pairs.specs.declared.Pair.{Pair}
 use Rattle.pairs.specs.Pairs.{pair}
+use Rattle.lags.specs.Lags.{lagOk}
 use Rattle.state.specs.declared.State.{State}
 
 -- "pointers are 0, 9, 18 (and 27 for the second)"
@@ -42,9 +43,6 @@ unfoldable pub thvadOk : Pair → Bool
 thvadOk t = within (pos 16384) (pos 32767) (t .m) && within (negℤ (pos 32)) (pos 64) (t .e)
 
 -- "adaptcount 0..9; burstcount 0..3; hangcount -1..5; lag counts 0..4; last lag 40..120"
-unfoldable pub lagOk : ℕ → Bool
-lagOk lag = leb 40 lag && leb lag 120
-
 unfoldable pub countsOk : State → Bool
 countsOk s =
     within (pos 0) (pos 9) (s .adaptcount)

@@ -1,6 +1,7 @@
 // What the detector keeps from frame to frame: the state, when it is valid, and the state after a reset.
 ghost use mathlib.Core.Path.{_≡_};
 ghost use Rattle.state.specs.Valid as valid;
+use lags::lag_ok;
 use operations::magnitude;
 use pairs::Pair;
 use rows::all_within;
@@ -134,16 +135,6 @@ fn thvad_ok(thvad: Pair) -> bool
 {
     if short_within(16384, 32767, thvad.m) {
         return short_within(-32, 64, thvad.e);
-    }
-    false
-}
-
-// Whether a lag is one of 40..120.
-pub fn lag_ok(lag: u16) -> bool
-    ensures { λ r. ⌜ r ≡ valid.lagOk lag ⌝ }
-{
-    if 40 <= lag {
-        return lag <= 120;
     }
     false
 }

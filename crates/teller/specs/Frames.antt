@@ -6,7 +6,7 @@ use Prim.Native.Nat.{ℕ}
 use lib.Dec.{eqb}
 use lib.ListN.{drop}
 use Rattle.rows.specs.Choice.{IF_THEN_ELSE_}
-use Rattle.detector.specs.Run.{Frame}
+use Rattle.frames.specs.Frame.{Frame}
 use Rattle.lines.specs.Answers.{decodedOf}
 use Rattle.samples.specs.Samples.{frameBytes}
 use Rattle.samples.specs.Beside.{blockOf}

@@ -6,7 +6,7 @@ use mathlib.Core.List.{List}
 use Prim.Native.Nat.{ℕ}
 use lib.Dec.{eqb}
 use Rattle.rows.specs.Choice.{IF_THEN_ELSE_}
-use Rattle.detector.specs.Refusal.{Direction, directionOf}
+use Rattle.frames.specs.Frame.{Direction, directionOf}
 use Rattle.lines.specs.Answers.{decodedOf}
 use Rattle.pieces.specs.Lines.{linesOf}
 use Rattle.pieces.specs.Pieces.{stateAfter, textAfter}

@@ -9,6 +9,10 @@ use lib.Dec.{eqb}
 use lib.ListN.{length, replicate, length-take}
 use lib.Seq.{take-all}
 use Rattle.rows.specs.Choice.{IF_THEN_ELSE_}
+use Rattle.counts.specs.declared.Totals.{Totals}
+use Rattle.counts.specs.declared.Counted.{Counted}
+use Rattle.counts.specs.Counts.{totalsOf, limit, countOf}
+use Rattle.counts.proofs.Adds.{three-add, two-add}
 use Rattle.state.specs.Valid.{resetOf}
 use Rattle.pieces.specs.Lines.{linesOf, short}
 use Rattle.pieces.specs.Cut.{restOf}
@@ -19,14 +23,11 @@ use Rattle.runner.specs.declared.Said.{Said}
 use Rattle.runner.specs.Run.{nextOf, replyOf, repliesOf}
 use Rattle.runner.proofs.Steps.{said-short}
 use Rattle.runner.proofs.Replies.{replies-length}
-use Rattle.totals.specs.declared.Totals.{Totals}
-use Rattle.totals.specs.declared.Counted.{Counted}
 use Rattle.totals.specs.declared.Tally.{Tally}
 use Rattle.totals.specs.declared.Night.{Night}
-use Rattle.totals.specs.Counts.{totalsOf, limit, nightOf}
-use Rattle.totals.specs.Fed.{countOf, talliedOf, ranOf, startOf, fedOf, finishOf, callsFrom}
+use Rattle.totals.specs.Whole.{nightOf}
+use Rattle.totals.specs.Fed.{talliedOf, ranOf, startOf, fedOf, finishOf, callsFrom}
 use Rattle.totals.specs.Asked.{comesTo, countedReplies, Asked}
-use Rattle.totals.proofs.Adds.{three-add, two-add}
 use Rattle.totals.proofs.Limit.{stays, night-is}
 
 -- of a line the first 85 bytes are enough

@@ -1,4 +1,3 @@
-pub mod Adds
 pub mod Limit
 pub mod Reports
 pub mod Calls

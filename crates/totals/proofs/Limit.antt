@@ -10,40 +10,20 @@ use lib.ListN.{length, take, length-append}
 use lib.Seq.{take-all, take-at}
 use Rattle.rows.specs.Choice.{IF_THEN_ELSE_}
 use Rattle.rows.proofs.Choice.{or-left, or-right, or-same, either}
+use Rattle.counts.specs.declared.Reply.{Reply}
+use Rattle.counts.specs.declared.Totals.{Totals}
+use Rattle.counts.specs.declared.Counted.{Counted}
+use Rattle.counts.specs.Counts.{isAccepted, howMany, totalsOf, limit, fullOf, plusOf, countOf}
+use Rattle.counts.proofs.Adds.{totals-append, three-add, two-add}
+use Rattle.counts.proofs.Room.{kept, over, more}
 use Rattle.state.specs.declared.State.{State}
 use Rattle.state.specs.Valid.{resetOf}
 use Rattle.pieces.specs.Lines.{linesOf}
 use Rattle.pieces.specs.Pieces.{stateAfter}
-use Rattle.runner.specs.declared.Reply.{Reply}
 use Rattle.runner.specs.Run.{nextOf, replyOf, repliesFrom, repliesOf}
-use Rattle.totals.specs.declared.Totals.{Totals}
-use Rattle.totals.specs.declared.Counted.{Counted}
 use Rattle.totals.specs.declared.Tally.{Tally}
-use Rattle.totals.specs.Counts.{isAccepted, howMany, totalsOf, limit, nightOf}
-use Rattle.totals.specs.Fed.{fullOf, plusOf, countOf, talliedOf, ranOf, startOf}
-use Rattle.totals.proofs.Adds.{totals-append, three-add, two-add}
-
--- ---- one answer
-module _ (c : Counted) (r : Reply) where
-  pub kept : (c .refusal ≡ 0 → ⊥) → countOf c r ≡ c
-  unfolding countOf IF_THEN_ELSE_
-  kept h = rw (ne-eqb (c .refusal) 0 h)
-
-  pub over : c .refusal ≡ 0 → fullOf (c .totals) ≡ true → countOf c r ≡ record { refusal = 7; totals = c .totals }
-  unfolding countOf IF_THEN_ELSE_
-  over h f = rw (eq-eqb (c .refusal) 0 h, f)
-
-  pub more : c .refusal ≡ 0 → fullOf (c .totals) ≡ false → countOf c r ≡ record { refusal = 0; totals = plusOf (c .totals) (totalsOf (r ∷ [])) }
-  unfolding countOf IF_THEN_ELSE_
-  more h f = rw (eq-eqb (c .refusal) 0 h, f)
-
--- where a line more is counted, each number can rise
-pub room : (t : Totals) → fullOf t ≡ false → (t .accepted + t .refused < limit) × (t .speech + t .held + t .quiet < limit)
-unfolding fullOf
-room t f =
-    let a = leb limit (t .accepted + t .refused) in
-    let b = leb limit (t .speech + t .held + t .quiet) in
-    (leb-false limit (t .accepted + t .refused) (or-left a b f), leb-false limit (t .speech + t .held + t .quiet) (or-right a b f))
+use Rattle.totals.specs.Whole.{nightOf}
+use Rattle.totals.specs.Fed.{talliedOf, ranOf, startOf}
 
 -- the totals of a list are full exactly if it is as long as can be
 full-lines : (rs : List Reply) → fullOf (totalsOf rs) ≡ leb limit (length rs)

@@ -8,6 +8,7 @@ use lib.ListN.{length, take, drop, getD, replicate, length-append, length-drop}
 use lib.Seq.{take-at, drop-at}
 use Rattle.rows.specs.Rows.{all}
 use Rattle.rows.proofs.All.{drop-next}
+use Rattle.counts.specs.declared.Totals.{Totals}
 use Rattle.lines.specs.Hex.{hexOf, numberOf, digitsOf, blocksOf}
 use Rattle.lines.specs.Line.{fieldAt}
 use Rattle.lines.proofs.Digits.{length-digits, number-digits}
@@ -15,7 +16,6 @@ use Rattle.lines.proofs.Puts.{length-blocks}
 use Rattle.lines.proofs.RoundTrip.{block-at, blocks-hex}
 use Rattle.pieces.specs.Put.{putOf}
 use Rattle.pieces.proofs.Written.{put-is, put-put}
-use Rattle.totals.specs.declared.Totals.{Totals}
 use Rattle.totals.specs.Report.{numbersOf, reportOf}
 
 -- ---- put number after number

@@ -4,12 +4,12 @@ use mathlib.Core.Path.{_≡_}
 use mathlib.Core.List.{List}
 use Prim.Native.Nat.{ℕ, _+_, _<_, _≤_, min}
 use lib.ListN.{length, take}
+use Rattle.counts.specs.declared.Reply.{Reply}
+use Rattle.counts.specs.declared.Counted.{Counted}
+use Rattle.counts.specs.Counts.{isAccepted, isSpeech, isHeld, isQuiet, isRefused, howMany, limit}
 use Rattle.pieces.specs.Lines.{linesOf}
 use Rattle.pieces.specs.Pieces.{flat}
-use Rattle.runner.specs.declared.Reply.{Reply}
 use Rattle.runner.specs.Run.{repliesOf}
-use Rattle.totals.specs.declared.Counted.{Counted}
-use Rattle.totals.specs.Counts.{isAccepted, isSpeech, isHeld, isQuiet, isRefused, howMany, limit}
 use Rattle.totals.specs.Fed.{startOf, callsFrom}
 
 -- what the pieces of a trace come to, by the promises

@@ -1,4 +1,4 @@
-pub mod Counts
+pub mod Whole
 pub mod Report
 pub mod Fed
 pub mod Asked

@@ -2,9 +2,9 @@
 -- of `lines`. Assumes nothing.
 use mathlib.Core.List.{List, [], _∷_, _++_}
 use Prim.Native.Nat.{ℕ}
+use Rattle.counts.specs.declared.Totals.{Totals}
 use Rattle.lines.specs.Hex.{blocksOf}
-use Rattle.totals.specs.declared.Totals.{Totals}
-use Rattle.totals.specs.Counts.{nightOf}
+use Rattle.totals.specs.Whole.{nightOf}
 
 -- in the order of the report
 unfoldable pub numbersOf : Totals → List ℕ

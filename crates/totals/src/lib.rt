@@ -1,35 +1,16 @@
 // A night's totals: the answers to the lines of a trace counted, and the line of the report.
 ghost use mathlib.Core.Path.{_≡_};
-ghost use mathlib.Core.Bool.{false};
-ghost use mathlib.Core.List.{[], _∷_};
 ghost use Rattle.pieces.specs.Lines.{linesOf};
-ghost use Rattle.totals.specs.Counts as count;
 ghost use Rattle.totals.specs.Report as line;
 ghost use Rattle.totals.specs.Fed as piece;
+use counts::Counted;
+use counts::Totals;
+use counts::count;
 use pieces::Finder;
-use runner::Reply;
 use state::State;
-
-// The most lines that are counted: eight digits write no more.
-const LIMIT: u64 = 4294967295;
 
 // The bytes of a report: five numbers of eight digits, and a line feed.
 pub const REPORT: usize = 41;
-
-// The five numbers of a night: accepted frames, those with vvad, those kept only by the hangover, quiet ones, and refused lines.
-pub struct Totals {
-    pub accepted: u32,
-    pub speech: u32,
-    pub held: u32,
-    pub quiet: u32,
-    pub refused: u32,
-}
-
-// Totals, and 0, or 7 where there was a line more than can be counted.
-pub struct Counted {
-    pub refusal: u8,
-    pub totals: Totals,
-}
 
 // What lines leave: the totals, and the detector.
 pub struct Tally {
@@ -41,58 +22,6 @@ pub struct Tally {
 pub struct Night {
     pub tally: Tally,
     pub finder: Finder,
-}
-
-// ---- one answer
-
-// Whether no line more is counted.
-fn full(t: Totals) -> bool
-    ensures { λ r. ⌜ r ≡ piece.fullOf t ⌝ }
-{
-    let lines = t.accepted as u64 + t.refused as u64;
-    let frames = t.speech as u64 + t.held as u64 + t.quiet as u64;
-    (lines >= LIMIT) | (frames >= LIMIT)
-}
-
-// The totals with an answer more.
-fn more(t: Totals, r: Reply) -> Totals
-    requires { ⌜ piece.fullOf t ≡ false ⌝ }
-    ensures { λ n. ⌜ n ≡ piece.plusOf t (count.totalsOf (r ∷ [])) ⌝ }
-{
-    let mut n = t;
-    if r.refusal != 0 {
-        n.refused += 1;
-        return n;
-    }
-    n.accepted += 1;
-    if r.vvad {
-        n.speech += 1;
-        return n;
-    }
-    if r.vad {
-        n.held += 1;
-        return n;
-    }
-    n.quiet += 1;
-    n
-}
-
-// Counts an answer, or gives 7 and the totals as they are; what has been refused stays.
-pub fn count(c: Counted, r: Reply) -> Counted
-    ensures { λ n. ⌜ n ≡ piece.countOf c r ⌝ }
-{
-    if c.refusal != 0 {
-        return c;
-    }
-    let t = c.totals;
-    if full(t) {
-        return Counted {
-            refusal: 7,
-            totals: t,
-        };
-    }
-    let totals = more(t, r);
-    Counted { refusal: 0, totals }
 }
 
 // ---- a night in pieces

@@ -16,11 +16,12 @@ use Rattle.rows.proofs.Choice.{either}
 use Rattle.hangover.specs.Bursts.{byPlace, Latest}
 use Rattle.hangover.proofs.Bursts.{hungAt, latestAt, latest-is, latest-next, latest-quiet, held-by, more-last, more-latest}
 use Rattle.threshold.specs.declared.Way.{Way}
+use Rattle.frames.specs.Frame.{Frame}
 use Rattle.state.specs.declared.State.{State}
 use Rattle.state.specs.Valid.{resetOf}
 use Rattle.detector.specs.declared.Answer.{Answer}
 use Rattle.detector.specs.Step.{refusedOf, toneRead}
-use Rattle.detector.specs.Run.{Frame, answerTo, stateFrom, acceptedFrom, rawsOf}
+use Rattle.detector.specs.Run.{answerTo, stateFrom, acceptedFrom, rawsOf}
 use Rattle.detector.proofs.Run.{Hangs, step-hangs, Counted, counted-start, flag-more, burst-more, counted-more, raws-length, raws-more, accepted-more, refused-more, as-given}
 use Rattle.why.specs.declared.Flag.{Flag}
 use Rattle.why.specs.declared.Reasons.{Reasons}

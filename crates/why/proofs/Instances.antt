@@ -6,10 +6,12 @@ use native.Mathlib.Omega.{arith}
 use lib.ListN.{length, replicate}
 use Rattle.rows.specs.Choice.{IF_THEN_ELSE_, within}
 use Rattle.rows.specs.Rows.{all}
+use Rattle.lags.specs.Lags.{lagOk}
+use Rattle.frames.specs.Frame.{up, lengthsOk, samplesOk, scaleOk, acfOk, lagsOk, frameRefusalOf}
 use Rattle.state.specs.declared.State.{State}
-use Rattle.state.specs.Valid.{lagOk, validOf, Shaped, resetOf}
+use Rattle.state.specs.Valid.{validOf, Shaped, resetOf}
 use Rattle.state.proofs.Facts.{reset-valid, reset-shaped}
-use Rattle.detector.specs.Refusal.{up, lengthsOk, samplesOk, scaleOk, acfOk, lagsOk, frameRefusalOf, refusalOf}
+use Rattle.detector.specs.Refusal.{refusalOf}
 use Rattle.detector.specs.Step.{refusedOf}
 use Rattle.detector.specs.Run.{answerTo, stateFrom, acceptedFrom}
 use Rattle.detector.specs.Worked.{quiet}

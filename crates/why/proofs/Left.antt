@@ -7,11 +7,11 @@ use Rattle.threshold.specs.declared.Kept.{Kept}
 use Rattle.threshold.specs.declared.Way.{Way}
 use Rattle.threshold.specs.Ways.{leftBy}
 use Rattle.threshold.proofs.Ways.{by-way}
+use Rattle.frames.specs.Frame.{Frame, samplesOk}
 use Rattle.state.specs.declared.State.{State}
 use Rattle.detector.specs.declared.Answer.{Answer}
-use Rattle.detector.specs.Refusal.{samplesOk}
 use Rattle.detector.specs.Step.{spectralOf, acceptedOf, toneRead, toneKept}
-use Rattle.detector.specs.Run.{Frame, answerTo}
+use Rattle.detector.specs.Run.{answerTo}
 use Rattle.detector.proofs.Table.{accepted-0, step-accepted}
 use Rattle.detector.proofs.Keeps.{accepted}
 use Rattle.why.specs.Explain.{thresholdReason}

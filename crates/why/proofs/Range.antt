@@ -16,8 +16,8 @@ use Rattle.pairs.specs.Pairs.{greaterOf}
 use Rattle.threshold.specs.declared.Way.{Way}
 use Rattle.threshold.specs.Threshold.{PTH}
 use Rattle.threshold.specs.Ways.{risenOf, wayTaken}
+use Rattle.frames.specs.Frame.{Direction, samplesOk}
 use Rattle.detector.specs.declared.Answer.{Answer}
-use Rattle.detector.specs.Refusal.{Direction, samplesOk}
 use Rattle.detector.specs.Step.{answerFor}
 use Rattle.detector.proofs.Table.{accepted-0}
 use Rattle.detector.proofs.Keeps.{accepted}

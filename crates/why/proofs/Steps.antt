@@ -9,8 +9,8 @@ use lib.Dec.{eqb, leb}
 use lib.IntN.{ℤ}
 use Rattle.rows.specs.Choice.{IF_THEN_ELSE_}
 use Rattle.rows.proofs.Choice.{by-yes, by-no, by-test, either}
+use Rattle.frames.specs.Frame.{Direction}
 use Rattle.detector.specs.declared.Answer.{Answer}
-use Rattle.detector.specs.Refusal.{Direction}
 use Rattle.detector.specs.Step.{refusedOf, toneRead, answerFor}
 use Rattle.why.specs.declared.Explainer.{Explainer}
 use Rattle.why.specs.declared.Explained.{Explained}

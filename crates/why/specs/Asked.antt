@@ -5,10 +5,11 @@ use mathlib.Core.List.{List, [], _∷_}
 use mathlib.Core.Logic.{_↔_}
 use Prim.Native.Nat.{ℕ, _+_, _<_, _≤_}
 use lib.ListN.{length}
+use Rattle.frames.specs.Frame.{Frame}
 use Rattle.state.specs.Valid.{resetOf}
 use Rattle.detector.specs.declared.Answer.{Answer}
 use Rattle.detector.specs.Step.{refusedOf, toneRead}
-use Rattle.detector.specs.Run.{Frame, answerTo, stateFrom, acceptedFrom}
+use Rattle.detector.specs.Run.{answerTo, stateFrom, acceptedFrom}
 use Rattle.why.specs.declared.Flag.{Flag}
 use Rattle.why.specs.declared.Reasons.{Reasons}
 use Rattle.why.specs.declared.Why.{Why}

@@ -12,10 +12,10 @@ use Rattle.lags.specs.Lags.{ptchOf}
 use Rattle.hangover.specs.Hangover.{BURSTCONST}
 use Rattle.threshold.specs.declared.Way.{Way}
 use Rattle.threshold.specs.Ways.{wayTaken}
+use Rattle.frames.specs.Frame.{Direction}
 use Rattle.state.specs.declared.State.{State}
 use Rattle.state.specs.Valid.{resetOf}
 use Rattle.detector.specs.declared.Answer.{Answer}
-use Rattle.detector.specs.Refusal.{Direction}
 use Rattle.detector.specs.Step.{refusedOf, toneRead, answerFor}
 use Rattle.why.specs.declared.Flag.{Flag}
 use Rattle.why.specs.declared.Why.{Why}

@@ -17,9 +17,10 @@ use Rattle.threshold.specs.declared.Way.{Way}
 use Rattle.threshold.specs.Threshold.{adaptOf}
 use Rattle.threshold.specs.Ways.{wayTaken}
 use Rattle.hangover.specs.Hangover.{burstOf, runDownOf, startedOf, hangoverOf}
-use Rattle.lags.specs.Lags.{ptchOf, smallagOf, countedOf, onceOf, lagcountOf}
-use Rattle.state.specs.Valid.{pointerOk, sacfWithin, sacfOk, sav0Ok, weightOf, rvadOk, thvadOk, lagOk, countsOk, validOf, resetOf}
-use Rattle.detector.specs.Refusal.{lengthsOk, samplesOk, scaleOk, acfOk, lagsOk, frameRefusalOf, refusalOf}
+use Rattle.lags.specs.Lags.{lagOk, ptchOf, smallagOf, countedOf, onceOf, lagcountOf}
+use Rattle.frames.specs.Frame.{lengthsOk, samplesOk, scaleOk, acfOk, lagsOk, frameRefusalOf}
+use Rattle.state.specs.Valid.{pointerOk, sacfWithin, sacfOk, sav0Ok, weightOf, rvadOk, thvadOk, countsOk, validOf, resetOf}
+use Rattle.detector.specs.Refusal.{refusalOf}
 use Rattle.detector.specs.Step.{spectralOf, acceptedOf, refusedOf, toneRead, toneKept, answerFor}
 use Rattle.detector.specs.Worked.{loud, quiet, bad}
 use Rattle.why.specs.declared.Flag.{Flag}

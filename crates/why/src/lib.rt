@@ -1,7 +1,7 @@
 // Why a frame was sent or not, and why the threshold moved or not: the reasons of each frame of a run from reset.
 ghost use mathlib.Core.Path.{_≡_};
 ghost use Prim.Native.Nat.{_<_};
-ghost use Rattle.detector.specs.Refusal.{directionOf};
+ghost use Rattle.frames.specs.Frame.{directionOf};
 ghost use Rattle.why.specs.Explain as meaning;
 ghost use Rattle.why.specs.Fits.{whyCase};
 use detector::Answer;

@@ -1,7 +1,7 @@
 -- `card::lindenflax_downlink` is `stepped` on the downlink. Assumes nothing.
 use borrow.Author.Needs.{needs}
 use Rattle.numbers.proofs.Read.{zreads}
-use Rattle.detector.specs.Refusal.{directionOf}
+use Rattle.frames.specs.Frame.{directionOf}
 use Rattle.card.proofs.lindenflax_downlink.Statement.{statement}
 use Rattle.card.proofs.lindenflax_downlink.Tie as tie
 

@@ -1,7 +1,7 @@
 -- `card::lindenflax_step` is `stepped` on the uplink. Assumes nothing.
 use borrow.Author.Needs.{needs}
 use Rattle.numbers.proofs.Read.{zreads}
-use Rattle.detector.specs.Refusal.{directionOf}
+use Rattle.frames.specs.Frame.{directionOf}
 use Rattle.card.proofs.lindenflax_step.Statement.{statement}
 use Rattle.card.proofs.lindenflax_step.Tie as tie
 

@@ -7,7 +7,7 @@ use lib.Dec.{eqb}
 use lib.IntN.{ℤ}
 use lib.ListN.{length}
 use Rattle.numbers.proofs.Read.{zreads}
-use Rattle.detector.specs.Refusal.{Direction, directionOf, samplesOk}
+use Rattle.frames.specs.Frame.{Direction, directionOf, samplesOk}
 use Rattle.detector.specs.Step.{answerFor}
 use Rattle.card.specs.Run.{stateOf, narrowOf, lentNumber}
 use Rattle.card.proofs.Answers.{refused, readable, storable, stepped}

@@ -13,9 +13,11 @@ use Rattle.rows.specs.Choice.{IF_THEN_ELSE_}
 use Rattle.rows.proofs.Choice.{by-yes}
 use Rattle.rows.proofs.Fill.{first-whole}
 use Rattle.tone.specs.Tone.{toneOf, flagOf}
-use Rattle.detector.specs.Refusal.{down, lengthsOk, samplesOk, refusalOf}
+use Rattle.frames.specs.Frame.{down, lengthsOk, samplesOk}
+use Rattle.frames.proofs.Frame.{nine, four}
+use Rattle.detector.specs.Refusal.{refusalOf}
 use Rattle.detector.specs.Step.{acceptedOf, refusedOf, toneRead, toneKept, answerFor}
-use Rattle.detector.proofs.Table.{number-0, nine, four}
+use Rattle.detector.proofs.Table.{number-0}
 use Rattle.detector.proofs.downlink.Statement.{statement}
 use Rattle.detector.proofs.downlink.Tie as tie
 

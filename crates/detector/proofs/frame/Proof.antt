@@ -13,11 +13,13 @@ use Rattle.rows.specs.Choice.{IF_THEN_ELSE_}
 use Rattle.rows.proofs.Choice.{by-yes}
 use Rattle.rows.proofs.Fill.{first-whole}
 use Rattle.tone.specs.Tone.{flagOf}
+use Rattle.frames.specs.Frame.{directionOf, lengthsOk, samplesOk}
+use Rattle.frames.proofs.Frame.{nine, four}
 use Rattle.state.specs.declared.State.{State}
 use Rattle.detector.specs.declared.Answer.{Answer}
-use Rattle.detector.specs.Refusal.{directionOf, lengthsOk, samplesOk, refusalOf}
+use Rattle.detector.specs.Refusal.{refusalOf}
 use Rattle.detector.specs.Step.{acceptedOf, refusedOf, toneRead, toneKept, answerFor}
-use Rattle.detector.proofs.Table.{number-0, nine, four}
+use Rattle.detector.proofs.Table.{number-0}
 use Rattle.detector.proofs.frame.Statement.{statement}
 use Rattle.detector.proofs.frame.Tie as tie
 

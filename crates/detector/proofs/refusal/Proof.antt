@@ -10,7 +10,8 @@ use Rattle.numbers.proofs.Read.{zreads}
 use Rattle.rows.specs.Choice.{IF_THEN_ELSE_}
 use Rattle.rows.proofs.Choice.{by-yes, by-no, not-true, not-false}
 use Rattle.rows.proofs.Fill.{first-whole}
-use Rattle.detector.specs.Refusal.{lengthsOk, frameRefusalOf, refusalOf}
+use Rattle.frames.specs.Frame.{lengthsOk, frameRefusalOf}
+use Rattle.detector.specs.Refusal.{refusalOf}
 use Rattle.detector.proofs.refusal.Statement.{statement}
 use Rattle.detector.proofs.refusal.Tie as tie
 

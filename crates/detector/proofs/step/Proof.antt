@@ -9,9 +9,11 @@ use borrow.Author.Tests.{eq-eqb, ne-eqb}
 use Rattle.numbers.proofs.Read.{zreads}
 use Rattle.rows.specs.Choice.{IF_THEN_ELSE_}
 use Rattle.rows.proofs.Fill.{first-whole}
-use Rattle.detector.specs.Refusal.{lengthsOk, samplesOk, refusalOf}
+use Rattle.frames.specs.Frame.{lengthsOk, samplesOk}
+use Rattle.frames.proofs.Frame.{nine, four}
+use Rattle.detector.specs.Refusal.{refusalOf}
 use Rattle.detector.specs.Step.{acceptedOf, refusedOf, toneRead, toneKept, answerFor}
-use Rattle.detector.proofs.Table.{number-0, nine, four}
+use Rattle.detector.proofs.Table.{number-0}
 use Rattle.detector.proofs.step.Statement.{statement}
 use Rattle.detector.proofs.step.Tie as tie
 

@@ -7,7 +7,7 @@ use native.Mathlib.Omega.{arith}
 use lib.IntN.{ℤ, pos}
 use Rattle.numbers.proofs.Read.{zreads}
 use Rattle.rows.proofs.Fill.{first-whole}
-use Rattle.detector.specs.Refusal.{frameRefusalOf}
+use Rattle.frames.specs.Frame.{frameRefusalOf}
 use Rattle.lines.specs.Line.{Frame, lineOf}
 use Rattle.lines.specs.Answers.{rangesOf, writeOf}
 use Rattle.lines.proofs.Answers.{lengths-no, lengths-no-lags, lengths-yes, write-unsized, write-short, write-sized, write-kept, write-stored}

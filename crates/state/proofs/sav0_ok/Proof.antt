@@ -8,7 +8,7 @@ use mir.Syntax.{w32}
 use Rattle.numbers.specs.Sum.{at}
 use Rattle.numbers.proofs.Read.{ranged, zreads}
 use Rattle.state.specs.Valid.{sav0Ok}
-use Rattle.state.proofs.Signs.{negative, not-negative}
+use Rattle.numbers.proofs.Signs.{negative, not-negative}
 use Rattle.state.proofs.sav0_ok.Statement.{statement}
 use Rattle.state.proofs.sav0_ok.Tie as tie
 

@@ -10,7 +10,7 @@ use lib.IntN.{ℤ}
 use mir.Syntax.{w16}
 use mir.Val.{SFits}
 use Rattle.numbers.proofs.Read.{zreads}
-use Rattle.detector.specs.Refusal.{directionOf}
+use Rattle.frames.specs.Frame.{directionOf}
 use Rattle.lines.specs.declared.Decoded.{Decoded}
 use Rattle.samples.specs.declared.Samples.{Samples}
 use Rattle.samples.specs.Samples.{sofOf, readOf}

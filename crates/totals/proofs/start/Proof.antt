@@ -1,6 +1,6 @@
 -- `totals::start` has counted nothing. Assumes nothing.
 use borrow.Author.Needs.{needs}
-use Rattle.totals.specs.Counts.{howMany, totalsOf}
+use Rattle.counts.specs.Counts.{howMany, totalsOf}
 use Rattle.totals.specs.Fed.{startOf}
 use Rattle.totals.proofs.start.Statement.{statement}
 use Rattle.totals.proofs.start.Tie as tie

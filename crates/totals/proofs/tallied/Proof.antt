@@ -2,12 +2,12 @@
 use borrow.Author.Needs.{needs}
 use mathlib.Core.Path.{_≡_, ap, _∙_}
 use native.Mathlib.Omega.{arith}
+use Rattle.counts.specs.declared.Counted.{Counted}
+use Rattle.counts.specs.Counts.{countOf}
 use Rattle.state.specs.declared.State.{State}
 use Rattle.runner.specs.declared.Said.{Said}
 use Rattle.runner.specs.Run.{nextOf, replyOf}
-use Rattle.totals.specs.declared.Counted.{Counted}
 use Rattle.totals.specs.declared.Tally.{Tally}
-use Rattle.totals.specs.Fed.{countOf}
 use Rattle.totals.proofs.Limit.{tallied-no, tallied-yes}
 use Rattle.totals.proofs.tallied.Statement.{statement}
 use Rattle.totals.proofs.tallied.Tie as tie

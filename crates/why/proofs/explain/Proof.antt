@@ -5,9 +5,9 @@ use mathlib.Core.Bool.{Bool, true, false, _&&_}
 use mathlib.Core.List.{List}
 use lib.IntN.{ℤ}
 use Rattle.numbers.proofs.Read.{zreads}
+use Rattle.frames.specs.Frame.{directionOf}
 use Rattle.state.specs.declared.State.{State}
 use Rattle.detector.specs.declared.Answer.{Answer}
-use Rattle.detector.specs.Refusal.{directionOf}
 use Rattle.detector.specs.Step.{toneRead, answerFor}
 use Rattle.why.specs.Explain.{reasonedOf}
 use Rattle.why.proofs.Steps.{with-number}

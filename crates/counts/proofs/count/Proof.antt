@@ -1,12 +1,12 @@
--- `totals::count` counts an answer where it can. Assumes nothing.
+-- `counts::count` counts an answer where it can. Assumes nothing.
 use borrow.Author.Needs.{needs}
 use mathlib.Core.Path.{_≡_, sym, ap, _∙_}
 use native.Mathlib.Omega.{arith}
-use Rattle.totals.specs.declared.Totals.{Totals}
-use Rattle.totals.specs.declared.Counted.{Counted}
-use Rattle.totals.proofs.Limit.{kept, over, more}
-use Rattle.totals.proofs.count.Statement.{statement}
-use Rattle.totals.proofs.count.Tie as tie
+use Rattle.counts.specs.declared.Totals.{Totals}
+use Rattle.counts.specs.declared.Counted.{Counted}
+use Rattle.counts.proofs.Room.{kept, over, more}
+use Rattle.counts.proofs.count.Statement.{statement}
+use Rattle.counts.proofs.count.Tie as tie
 
 returns : tie.Need-returns
 returns c = sym (kept _ _ (c .if1 .taken))

@@ -1,4 +1,4 @@
--- `detector::acf_ok` tests the sign of the first number, and then each true magnitude against it, from the front. Assumes nothing.
+-- `frames::acf_ok` tests the sign of the first number, and then each true magnitude against it, from the front. Assumes nothing.
 use borrow.Author.Needs.{needs}
 use mathlib.Core.Path.{_≡_, sym, _∙_}
 use mathlib.Core.Bool.{Bool, true, false}
@@ -15,10 +15,10 @@ use Rattle.numbers.proofs.Parts.{zarith, of, sign}
 use Rattle.numbers.proofs.Read.{ranged, zreads}
 use Rattle.rows.specs.Rows.{all}
 use Rattle.rows.proofs.All.{all-yes, all-no, all-end}
-use Rattle.state.proofs.Signs.{negative, not-negative}
-use Rattle.detector.specs.Refusal.{acfOk}
-use Rattle.detector.proofs.acf_ok.Statement.{statement}
-use Rattle.detector.proofs.acf_ok.Tie as tie
+use Rattle.numbers.proofs.Signs.{negative, not-negative}
+use Rattle.frames.specs.Frame.{acfOk}
+use Rattle.frames.proofs.acf_ok.Statement.{statement}
+use Rattle.frames.proofs.acf_ok.Tie as tie
 
 -- no larger in magnitude than the first
 abbrev tested : List ℤ → ℤ → Bool

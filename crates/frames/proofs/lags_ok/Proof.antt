@@ -1,4 +1,4 @@
--- `detector::lags_ok` tests each lag from the front: what is left to test decides. Assumes nothing.
+-- `frames::lags_ok` tests each lag from the front: what is left to test decides. Assumes nothing.
 use borrow.Author.Needs.{needs}
 use mathlib.Core.Path.{_≡_, refl, sym, _∙_}
 use Prim.Native.Nat.{_-_, _<_, _≤_}
@@ -6,11 +6,11 @@ use native.Mathlib.Omega.{arith}
 use lib.ListN.{length, drop}
 use Rattle.rows.specs.Rows.{all}
 use Rattle.rows.proofs.All.{all-yes, all-no, all-end}
-use Rattle.state.specs.Valid.{lagOk}
+use Rattle.lags.specs.Lags.{lagOk}
 use Rattle.rows.proofs.Choice.{not-true, not-false}
-use Rattle.detector.specs.Refusal.{lagsOk}
-use Rattle.detector.proofs.lags_ok.Statement.{statement}
-use Rattle.detector.proofs.lags_ok.Tie as tie
+use Rattle.frames.specs.Frame.{lagsOk}
+use Rattle.frames.proofs.lags_ok.Statement.{statement}
+use Rattle.frames.proofs.lags_ok.Tie as tie
 
 abbrev Inv-loop : tie.InvT-loop
 Inv-loop lags i₀ i = (i ≤ 4) × (all lagOk (drop i lags) ≡ lagsOk lags)

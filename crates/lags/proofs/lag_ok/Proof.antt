@@ -1,8 +1,8 @@
--- `state::lag_ok` tests both ends of 40..120. Assumes nothing.
+-- `lags::lag_ok` tests both ends of 40..120. Assumes nothing.
 use borrow.Author.Tests.{le-leb, lt-leb}
-use Rattle.state.specs.Valid.{lagOk}
-use Rattle.state.proofs.lag_ok.Statement.{statement}
-use Rattle.state.proofs.lag_ok.Tie as tie
+use Rattle.lags.specs.Lags.{lagOk}
+use Rattle.lags.proofs.lag_ok.Statement.{statement}
+use Rattle.lags.proofs.lag_ok.Tie as tie
 
 returns : tie.Need-returns
 unfolding lagOk

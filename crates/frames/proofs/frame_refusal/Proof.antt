@@ -1,12 +1,12 @@
--- `detector::frame_refusal` makes the frame's own tests in document 01's order, and is left at the first that fails. Assumes nothing.
+-- `frames::frame_refusal` makes the frame's own tests in document 01's order, and is left at the first that fails. Assumes nothing.
 use borrow.Author.Needs.{needs}
 use mathlib.Core.Path.{_≡_, sym, _∙_}
 use Rattle.numbers.proofs.Read.{zreads}
 use Rattle.rows.specs.Choice.{IF_THEN_ELSE_}
 use Rattle.rows.proofs.Choice.{not-true, not-false}
-use Rattle.detector.specs.Refusal.{scaleOk, frameRefusalOf}
-use Rattle.detector.proofs.frame_refusal.Statement.{statement}
-use Rattle.detector.proofs.frame_refusal.Tie as tie
+use Rattle.frames.specs.Frame.{scaleOk, frameRefusalOf}
+use Rattle.frames.proofs.frame_refusal.Statement.{statement}
+use Rattle.frames.proofs.frame_refusal.Tie as tie
 
 scale-is : (c : tie.After-short-within) → scaleOk (c .before .args .scalvad) ≡ c .short-within .result
 unfolding scaleOk

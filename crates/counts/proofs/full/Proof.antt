@@ -1,9 +1,9 @@
--- `totals::full` adds in 64 bits, where no sum of counts is too large. Assumes nothing.
+-- `counts::full` adds in 64 bits, where no sum of counts is too large. Assumes nothing.
 use borrow.Author.Needs.{needs}
 use mathlib.Core.Path.{refl}
-use Rattle.totals.specs.Fed.{fullOf}
-use Rattle.totals.proofs.full.Statement.{statement}
-use Rattle.totals.proofs.full.Tie as tie
+use Rattle.counts.specs.Counts.{fullOf}
+use Rattle.counts.proofs.full.Statement.{statement}
+use Rattle.counts.proofs.full.Tie as tie
 
 cast-lines : tie.Need-cast-lines
 cast-lines c = search needs

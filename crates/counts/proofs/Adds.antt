@@ -8,10 +8,9 @@ use borrow.Author.Tests.{eq-eqb, ne-eqb}
 use lib.ListN.{length}
 use Rattle.rows.specs.Choice.{IF_THEN_ELSE_}
 use Rattle.rows.proofs.Choice.{either}
-use Rattle.runner.specs.declared.Reply.{Reply}
-use Rattle.totals.specs.declared.Totals.{Totals}
-use Rattle.totals.specs.Counts.{isAccepted, isSpeech, isHeld, isQuiet, isRefused, howMany, totalsOf}
-use Rattle.totals.specs.Fed.{plusOf}
+use Rattle.counts.specs.declared.Reply.{Reply}
+use Rattle.counts.specs.declared.Totals.{Totals}
+use Rattle.counts.specs.Counts.{isAccepted, isSpeech, isHeld, isQuiet, isRefused, howMany, totalsOf, plusOf}
 
 -- what one answer adds
 unfoldable one : Bool → ℕ

@@ -1,10 +1,10 @@
--- `totals::more` raises the numbers that the answer's kind has, each of which can rise. Assumes nothing.
+-- `counts::more` raises the numbers that the answer's kind has, each of which can rise. Assumes nothing.
 use borrow.Author.Needs.{needs}
 use native.Mathlib.Omega.{arith}
-use Rattle.totals.proofs.Adds.{plus-refused, plus-speech, plus-held, plus-quiet}
-use Rattle.totals.proofs.Limit.{room}
-use Rattle.totals.proofs.more.Statement.{statement}
-use Rattle.totals.proofs.more.Tie as tie
+use Rattle.counts.proofs.Adds.{plus-refused, plus-speech, plus-held, plus-quiet}
+use Rattle.counts.proofs.Room.{room}
+use Rattle.counts.proofs.more.Statement.{statement}
+use Rattle.counts.proofs.more.Tie as tie
 
 add-n : tie.Need-add-n
 add-n c = let h = room _ (c .before .before .before .pre) in search needs
