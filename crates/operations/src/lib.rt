@@ -223,20 +223,16 @@ pub fn topped(x: i32, n: i16) -> i16
 
 // ---- norm
 
-// The shift that brings the magnitude into 2^30..2^31-1, and 0 for 0.
+// The shift that brings the magnitude into 2^30..2^31-1, and 0 for 0: the zeros before its first digit when it is written with 31 digits. The machine
+// counts those of 32, so the digits are moved up by one. Nothing is left of 0, nor of 2^31, the magnitude of the least number, whose norm is 0 too.
 pub fn norm(x: i32) -> i16
     ensures { λ r. ⌜ r ≡ op.norm x ⌝ }
 {
-    let mut m = magnitude(x);
-    let mut n: u32 = 0;
+    let m = magnitude(x) << 1;
     if m == 0 {
         return 0;
     }
-    while m < 1073741824 {
-        m *= 2;
-        n += 1;
-    }
-    n as i16
+    u32::leading_zeros(m) as i16
 }
 
 // ---- division
