@@ -223,8 +223,8 @@ pub fn topped(x: i32, n: i16) -> i16
 
 // ---- norm
 
-// The shift that brings the magnitude into 2^30..2^31-1, and 0 for 0: the zeros before its first digit when it is written with 31 digits. The machine
-// counts those of 32, so the digits are moved up by one. Nothing is left of 0, nor of 2^31, the magnitude of the least number, whose norm is 0 too.
+// The shift that brings the magnitude into 2^30..2^31-1, and 0 for 0. It is the number of zeros before the magnitude's first digit among 31. The machine
+// counts among 32, so the magnitude is moved up by one. Nothing is left then of 0, nor of 2^31, the least number's: the norm of both is 0.
 pub fn norm(x: i32) -> i16
     ensures { λ r. ⌜ r ≡ op.norm x ⌝ }
 {
