@@ -6,7 +6,7 @@
 //!
 //! With SAMPLES, those of the frames of FILE, the steps are the downlink's.
 #[allow(dead_code)]
-#[path = "../crates/card/lindenflax.rs"]
+#[path = "../crates/lindenflax/lindenflax.rs"]
 mod lindenflax;
 #[allow(dead_code)]
 #[path = "second.rs"]
