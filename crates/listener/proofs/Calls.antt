@@ -1,21 +1,22 @@
 -- What a caller of `start`, `feed` and `finish` gets, by their promises alone, is what the run of the whole trace beside all samples writes, however
 -- the trace is cut. Assumes nothing.
-use mathlib.Core.Path.{_≡_, refl, sym, ap, _∙_}
-use mathlib.Core.List.{List, [], _∷_}
+use mathlib.Core.Path.{_≡_, refl, ap}
+use mathlib.Core.List.{List}
 use Prim.Native.Nat.{ℕ, _/_, _≤_}
 use native.Mathlib.Omega.{arith}
-use borrow.Author.Tests.{le-leb, leb-true, eqb-true, eqb-false}
+use borrow.Author.Tests.{le-leb, leb-true}
 use lib.Dec.{eqb, leb}
 use lib.ListN.{length, take, length-take}
 use Rattle.rows.specs.Choice.{IF_THEN_ELSE_}
 use Rattle.rows.proofs.Choice.{by-test}
 use Rattle.state.specs.declared.State.{State}
-use Rattle.pieces.specs.Lines.{linesOf, plainOf, feedsOf, short}
+use Rattle.pieces.specs.declared.Finder.{Finder}
+use Rattle.pieces.specs.Lines.{linesOf, feedsOf, short}
 use Rattle.pieces.specs.Cut.{heldOf}
 use Rattle.pieces.specs.Calls.{Call, piecesOf}
-use Rattle.pieces.specs.Pieces.{flat, textAfter}
-use Rattle.pieces.proofs.Found.{one-line}
+use Rattle.pieces.specs.Pieces.{flat}
 use Rattle.pieces.proofs.Carried.{held-plain}
+use Rattle.pieces.proofs.Calls.{last-text}
 use Rattle.pieces.proofs.Written.{put-front}
 use Rattle.pieces.proofs.Runs.{handed-fits}
 use Rattle.samples.specs.Beside.{nextBeside, textBeside, blockOf}
@@ -56,32 +57,17 @@ pub feeds-in : (f n : ℕ) (p : List ℕ) → f ≡ feedsOf (take n p) → f ≤
 feeds-in f n p e = let a = feeds-most (take n p) in let b = length-take n p in omega arith
 
 -- ---- the end: what is carried is a line, and malformed, whatever its samples
-abbrev cutText : State → List ℕ
-cutText s = textOf (deniedOf 6 s .reply)
-
-none : (s : State) (q l : List ℕ) → length l ≡ 0 → [] ≡ answersOf (besideOf s q) (linesOf l)
-unfolding answersOf linesOf textAfter
-none s q [] e = refl
-none s q (b ∷ l) e = absurd (omega arith)
-
-some : (s : State) (q l : List ℕ) → plainOf l ≡ length l → linesOf l ≡ l ∷ [] → take 5 (cutText s) ≡ answersOf (besideOf s q) (linesOf l)
-unfolding answersOf textAfter textBeside answerOf replyOf textOf
-some s q l p e =
-    sym (ap (textAfter (nextBeside nextOf) (textBeside answerOf) (besideOf s q)) e ∙ ap (λ (x : Said). textOf (x .reply)) (said-cut s (blockOf q) l p))
+cut-text : (s : State) (q : List ℕ) (f : Finder) → textBeside answerOf (besideOf s q) (heldOf f) ≡ textOf (deniedOf 6 s .reply)
+unfolding textBeside answerOf replyOf
+cut-text s q f = ap (λ (x : Said). textOf (x .reply)) (said-cut s (blockOf q) (heldOf f) (held-plain f))
 
 pub finish-fits : (r : Listener) → finishOf r .wrote ≤ 5
 unfolding finishOf
 finish-fits r = by-test (λ (n : ℕ). n ≤ 5) (eqb (length (heldOf (r .finder))) 0) _ _ (λ t. omega arith) (λ t. omega arith)
 
 finish-last : (r : Listener) (q : List ℕ) → take (finishOf r .wrote) (finishOf r .text) ≡ answersOf (besideOf (r .state) q) (linesOf (heldOf (r .finder)))
-unfolding finishOf
-finish-last r q =
-    let f = r .finder in
-    by-test (λ (n : ℕ). take n (cutText (r .state)) ≡ answersOf (besideOf (r .state) q) (linesOf (heldOf f))) (eqb (length (heldOf f)) 0) _ _
-    (λ t. none (r .state) q (heldOf f) (eqb-true (length (heldOf f)) 0 t))
-    (λ t.
-    let p = held-plain f in
-    some (r .state) q (heldOf f) p (one-line (heldOf f) (omega (arith, eqb-false (length (heldOf f)) 0 t)) (omega arith)))
+unfolding finishOf answersOf textOf
+finish-last r q = last-text (nextBeside nextOf) (textBeside answerOf) (besideOf (r .state) q) (r .finder) 5 _ (omega arith) (cut-text (r .state) q (r .finder))
 
 -- ---- all calls
 short-next : (s : State) (b l : List ℕ) → nextOf s b (short l) ≡ nextOf s b l

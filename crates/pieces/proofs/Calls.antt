@@ -1,14 +1,35 @@
 -- A caller whose calls answer the lines that end in each piece, and whose end answers what is carried, gives in all what it writes for the lines of the
 -- whole input, however that is cut. Assumes nothing.
 use mathlib.Core.Path.{_≡_, sym, ap, ap₂, _∙_}
-use mathlib.Core.List.{List, [], _∷_, _++_}
-use Prim.Native.Nat.{ℕ}
+use mathlib.Core.List.{List, [], _∷_, _++_, append-nil}
+use Prim.Native.Nat.{ℕ, _≤_}
+use native.Mathlib.Omega.{arith}
+use borrow.Author.Tests.{eqb-true, eqb-false}
+use lib.Dec.{eqb}
+use lib.ListN.{length, take}
+use lib.Seq.{take-all}
+use Rattle.rows.specs.Choice.{IF_THEN_ELSE_}
+use Rattle.rows.proofs.Choice.{by-test}
 use Rattle.pieces.specs.declared.Finder.{Finder}
 use Rattle.pieces.specs.Lines.{linesOf, short}
 use Rattle.pieces.specs.Cut.{finderOf, heldOf, restOf}
 use Rattle.pieces.specs.Pieces.{flat, handedOf, handedAll, stateAfter, textAfter}
 use Rattle.pieces.specs.Calls.{Call, piecesOf, callsGive}
+use Rattle.pieces.proofs.Found.{no-line, one-line}
+use Rattle.pieces.proofs.Carried.{held-plain}
 use Rattle.pieces.proofs.Caller.{text-append, text-whole}
+
+-- the end: what is carried is a line, of which all that is written counts, or nothing if none was begun
+pub last-text : {S : Type 0} (next : S → List ℕ → S) (text : S → List ℕ → List ℕ) (s : S) (f : Finder) (n : ℕ) (t : List ℕ) → length t ≤ n → text s (heldOf f) ≡ t
+    → take (IF eqb (length (heldOf f)) 0 THEN 0 ELSE n) t ≡ textAfter next text s (linesOf (heldOf f))
+unfolding textAfter
+last-text next text s f n t h e =
+    by-test (λ (m : ℕ). take m t ≡ textAfter next text s (linesOf (heldOf f))) (eqb (length (heldOf f)) 0) _ _
+    (λ z. ap (textAfter next text s) (sym (no-line (heldOf f) (eqb-true (length (heldOf f)) 0 z))))
+    (λ z.
+    let p = held-plain f in
+    let l = one-line (heldOf f) (omega (arith, eqb-false (length (heldOf f)) 0 z)) (omega arith) in
+    take-all n t h ∙ (sym e ∙ (sym (append-nil (text s (heldOf f))) ∙ ap (textAfter next text s) (sym l))))
 
 -- the caller's state and its finder; what a call gives and leaves, and the end
 module _ {S T : Type 0} {k : ℕ} (next : S → List ℕ → S) (text : S → List ℕ → List ℕ) (state : T → S) (finder : T → Finder)

@@ -8,7 +8,7 @@ use native.Mathlib.Numerals.{add-one}
 use borrow.Author.Tests.{eq-eqb, ne-eqb, eqb-true, eqb-false}
 use lib.Dec.{eqb}
 use lib.ListN.{length, getD, take, drop, length-append, length-drop, drop-of-length-le}
-use lib.Seq.{drop-drop, drop-cons, take-length, drop-length, take-suc, take-append-add, drop-append-add, getD-drop}
+use lib.Seq.{drop-cons, take-length, drop-length, take-suc, take-append-add, drop-append-add, getD-drop}
 use Rattle.rows.specs.Choice.{IF_THEN_ELSE_}
 use Rattle.rows.proofs.Choice.{by-test, by-yes, by-no}
 use Rattle.pieces.specs.Lines.{onFirst, linesOf, plainOf, firstOf}
@@ -80,7 +80,12 @@ first-line (b ∷ c ∷ l) h = go (first-line (c ∷ l) (omega arith)) (eqb b 10
         let e : min (suc (plainOf (c ∷ l)) + 1) (suc (suc (length l))) ≡ suc (min (plainOf (c ∷ l) + 1) (suc (length l))) = omega arith in
         rw (e, ih)
 
--- a text that is one line
+-- a text that is no line, or one
+pub no-line : (l : List ℕ) → length l ≡ 0 → linesOf l ≡ []
+unfolding linesOf
+no-line [] e = refl
+no-line (b ∷ l) e = absurd (omega arith)
+
 pub one-line : (l : List ℕ) → 0 < length l → length l ≤ plainOf l + 1 → linesOf l ≡ l ∷ []
 unfolding firstOf linesOf
 one-line l h e =
@@ -188,9 +193,3 @@ plain-drop (suc n) (b ∷ l) h = go (λ k. plain-drop n l k) (eqb b 10) h
     go : (n ≤ plainOf l → plainOf l ≡ n + plainOf (drop n l)) → (t : Bool) → suc n ≤ (IF t THEN 0 ELSE suc (plainOf l)) → (IF t THEN 0 ELSE suc (plainOf l)) ≡ suc n + plainOf (drop n l)
     go f true h = absurd (omega arith)
     go f false h = let e = f (omega arith) in omega arith
-
-pub plain-there : (s : List ℕ) (i n : ℕ) → i + n < length s → n ≤ plainOf (drop i s) → getD s (i + n) 0 ≡ 10 → plainOf (drop i s) ≡ n
-plain-there s i n h k e =
-    let d = plain-drop n (drop i s) k in
-    let z : plainOf (drop n (drop i s)) ≡ 0 = ap plainOf (drop-drop n i s) ∙ plain-here s (i + n) h e in
-    omega (arith, d, z)

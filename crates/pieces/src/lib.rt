@@ -12,7 +12,7 @@ use rows::lesser;
 // The first bytes of a line that are kept: one more than the longest line of any form has, so that a longer one is known.
 const KEPT: usize = 85;
 
-// The bytes before the line feed of a line as most are: its line feed is looked for there first.
+// The bytes before the line feed of a line as most are: none of the longer ones has it before.
 const USUAL: usize = 81;
 
 // An unfinished line: its first bytes, and how many they are.
@@ -60,21 +60,18 @@ fn plain(s: &[u8], i: usize) -> bool
     ok
 }
 
-// The same as `seek`: a line of 82 bytes, as most are, is tested in one go.
+// The same as `seek`: the first 81 bytes of a line, as most have and more, are tested in one go.
 fn find(s: &[u8], i: usize) -> usize
     ensures { λ r. ⌜ r ≡ i + text.plainOf (drop i (now (s .entry))) ⌝ }
 {
     if i >= s.len() {
         return i;
     }
-    if s.len() - i <= USUAL {
-        return seek(s, i);
-    }
-    if s[i + USUAL] != 10 {
+    if s.len() - i < USUAL {
         return seek(s, i);
     }
     if plain(s, i) {
-        return i + USUAL;
+        return seek(s, i + USUAL);
     }
     seek(s, i)
 }

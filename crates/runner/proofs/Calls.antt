@@ -1,14 +1,13 @@
 -- What a caller of `start`, `feed` and `finish` gets, by their promises alone, is what the run of the whole input writes, however the input is
 -- cut. Assumes nothing.
-use mathlib.Core.Path.{_≡_, refl, sym, ap, _∙_}
+use mathlib.Core.Path.{_≡_, refl, ap}
 use mathlib.Core.Bool.{false}
-use mathlib.Core.List.{List, [], _∷_, append-nil}
+use mathlib.Core.List.{List, []}
 use Prim.Native.Nat.{ℕ, _/_, _≤_}
 use native.Mathlib.Omega.{arith}
-use borrow.Author.Tests.{le-leb, leb-true, eqb-true, eqb-false}
+use borrow.Author.Tests.{le-leb, leb-true}
 use lib.Dec.{eqb, leb}
 use lib.ListN.{length, take}
-use lib.Seq.{take-all}
 use Rattle.rows.specs.Choice.{IF_THEN_ELSE_}
 use Rattle.rows.proofs.Choice.{by-test}
 use Rattle.state.specs.declared.State.{State}
@@ -16,11 +15,10 @@ use Rattle.state.specs.Valid.{resetOf}
 use Rattle.pieces.specs.Lines.{linesOf, short}
 use Rattle.pieces.specs.Cut.{finderOf, heldOf}
 use Rattle.pieces.specs.Calls.{Call, piecesOf}
-use Rattle.pieces.specs.Pieces.{flat, handedAll, textAfter}
-use Rattle.pieces.proofs.Found.{one-line}
+use Rattle.pieces.specs.Pieces.{flat, handedAll}
 use Rattle.pieces.proofs.Carried.{held-plain}
 use Rattle.pieces.proofs.Caller.{text-whole}
-use Rattle.pieces.proofs.Calls.{calls-whole}
+use Rattle.pieces.proofs.Calls.{last-text, calls-whole}
 use Rattle.pieces.proofs.Written.{put-front}
 use Rattle.pieces.proofs.Runs.{handed-fits}
 use Rattle.runner.specs.declared.Runner.{Runner}
@@ -49,17 +47,6 @@ wrote-fits r p n =
     (λ t. omega arith)
 
 -- ---- the end: what is carried is a line
-none : (s : State) (l : List ℕ) → length l ≡ 0 → [] ≡ answersOf s (linesOf l)
-unfolding answersOf linesOf textAfter
-none s [] e = refl
-none s (b ∷ l) e = absurd (omega arith)
-
-some : (s : State) (l : List ℕ) → linesOf l ≡ l ∷ [] → take 4 (answerOf s l) ≡ answersOf s (linesOf l)
-unfolding answersOf textAfter
-some s l e =
-    let n = answer-most s l in
-    take-all 4 (answerOf s l) n ∙ sym (ap (textAfter nextOf answerOf s) e ∙ append-nil (answerOf s l))
-
 pub finish-fits : (r : Runner) → finishOf r .wrote ≤ 4
 unfolding finishOf
 finish-fits r = by-test (λ (n : ℕ). n ≤ 4) (eqb (length (heldOf (r .finder))) 0) _ _ (λ t. omega arith) (λ t. omega arith)
@@ -70,14 +57,8 @@ unfolding finishOf answerOf replyOf deniedOf
 finish-text r = ap (λ (x : Said). textOf (x .reply)) (said-cut (r .state) (heldOf (r .finder)) (held-plain (r .finder)))
 
 finish-last : (r : Runner) → take (finishOf r .wrote) (finishOf r .text) ≡ answersOf (r .state) (linesOf (heldOf (r .finder)))
-unfolding finishOf
-finish-last r =
-    let f = r .finder in
-    by-test (λ (n : ℕ). take n (answerOf (r .state) (heldOf f)) ≡ answersOf (r .state) (linesOf (heldOf f))) (eqb (length (heldOf f)) 0) _ _
-    (λ t. none (r .state) (heldOf f) (eqb-true (length (heldOf f)) 0 t))
-    (λ t.
-    let p = held-plain f in
-    some (r .state) (heldOf f) (one-line (heldOf f) (omega (arith, eqb-false (length (heldOf f)) 0 t)) (omega arith)))
+unfolding finishOf answersOf
+finish-last r = last-text nextOf answerOf (r .state) (r .finder) 4 _ (answer-most (r .state) (heldOf (r .finder))) refl
 
 -- ---- all calls
 short-next : (s : State) (l : List ℕ) → nextOf s (short l) ≡ nextOf s l

@@ -1,21 +1,21 @@
 -- What a caller of `start`, `feed` and `finish` gets, by their promises alone, is what the whole trace is told, however it is cut. Assumes nothing.
-use mathlib.Core.Path.{_≡_, refl, sym, ap, _∙_}
+use mathlib.Core.Path.{_≡_, refl, ap}
 use mathlib.Core.Bool.{Bool}
-use mathlib.Core.List.{List, [], _∷_, append-nil}
+use mathlib.Core.List.{List}
 use Prim.Native.Nat.{ℕ, _/_, _≤_}
 use native.Mathlib.Omega.{arith}
-use borrow.Author.Tests.{le-leb, leb-true, eqb-true, eqb-false}
+use borrow.Author.Tests.{le-leb, leb-true}
 use lib.Dec.{eqb, leb}
 use lib.ListN.{length, take}
-use lib.Seq.{take-length}
 use Rattle.rows.specs.Choice.{IF_THEN_ELSE_}
 use Rattle.rows.proofs.Choice.{by-test}
-use Rattle.pieces.specs.Lines.{linesOf, plainOf, short}
+use Rattle.pieces.specs.declared.Finder.{Finder}
+use Rattle.pieces.specs.Lines.{linesOf, short}
 use Rattle.pieces.specs.Cut.{heldOf}
 use Rattle.pieces.specs.Calls.{Call, piecesOf}
-use Rattle.pieces.specs.Pieces.{flat, textAfter}
-use Rattle.pieces.proofs.Found.{one-line}
+use Rattle.pieces.specs.Pieces.{flat}
 use Rattle.pieces.proofs.Carried.{held-plain}
+use Rattle.pieces.proofs.Calls.{last-text}
 use Rattle.samples.specs.Beside.{Beside, blockOf, nextBeside, textBeside}
 use Rattle.samples.proofs.Beside.{calls-beside}
 use Rattle.pieces.proofs.Written.{put-front}
@@ -50,16 +50,9 @@ wrote-fits t p samples n =
     (λ y. omega arith)
 
 -- ---- the end: what is carried is a line, and it has no line feed
-none : (b : Beside Hearing) (l : List ℕ) → length l ≡ 0 → [] ≡ textsOf b (linesOf l)
-unfolding textsOf linesOf textAfter
-none b [] z = refl
-none b (x ∷ l) z = absurd (omega arith)
-
-some : (b : Beside Hearing) (l : List ℕ) → linesOf l ≡ l ∷ [] → plainOf l ≡ length l → textOf (Why.Refused 6) ≡ textsOf b (linesOf l)
-unfolding textsOf textAfter textBeside lineText deniedOf
-some b l o p =
-    sym (ap (textAfter (nextBeside nextOf) (textBeside lineText) b) o
-    ∙ (append-nil (textBeside lineText b l) ∙ ap (λ (x : Told). textOf (x .why)) (told-cut (b .state) (blockOf (b .left)) l p)))
+cut-is : (b : Beside Hearing) (f : Finder) → textBeside lineText b (heldOf f) ≡ textOf (Why.Refused 6)
+unfolding textBeside lineText deniedOf
+cut-is b f = ap (λ (x : Told). textOf (x .why)) (told-cut (b .state) (blockOf (b .left)) (heldOf f) (held-plain f))
 
 pub finish-fits : (t : Teller) → finishOf t .wrote ≤ 10
 unfolding finishOf
@@ -68,14 +61,8 @@ finish-fits t =
     by-test (λ (k : ℕ). k ≤ 10) (eqb (length (heldOf (t .finder))) 0) _ _ (λ y. omega arith) (λ y. omega arith)
 
 finish-last : (t : Teller) (samples : List ℕ) → take (finishOf t .wrote) (finishOf t .text) ≡ textsOf (besideOf t samples) (linesOf (heldOf (t .finder)))
-unfolding finishOf
-finish-last t samples =
-    let f = t .finder in
-    by-test (λ (n : ℕ). take n (textOf (Why.Refused 6)) ≡ textsOf (besideOf t samples) (linesOf (heldOf f))) (eqb (length (heldOf f)) 0) _ _
-    (λ y. none (besideOf t samples) (heldOf f) (eqb-true (length (heldOf f)) 0 y))
-    (λ y.
-    let p = held-plain f in
-    take-length (textOf (Why.Refused 6)) ∙ some (besideOf t samples) (heldOf f) (one-line (heldOf f) (omega (arith, eqb-false (length (heldOf f)) 0 y)) (omega arith)) p)
+unfolding finishOf textsOf
+finish-last t samples = last-text (nextBeside nextOf) (textBeside lineText) (besideOf t samples) (t .finder) _ _ (omega arith) (cut-is (besideOf t samples) (t .finder))
 
 -- ---- all calls
 short-next : (h : Hearing) (b l : List ℕ) → nextOf h b (short l) ≡ nextOf h b l

@@ -1,8 +1,12 @@
--- `pieces::find`: where 81 bytes are passed and a line feed follows, it stands there. Assumes nothing.
-use mathlib.Core.Path.{sym, _∙_}
+-- `pieces::find`: where no line feed stands in 81 bytes, it is looked for after them. Assumes nothing.
+use mathlib.Core.Path.{_≡_, sym, ap, _∙_}
+use Prim.Native.Nat.{_+_}
 use native.Mathlib.Omega.{arith}
 use borrow.Author.Tests.{leb-true}
-use Rattle.pieces.proofs.Found.{plain-end, plain-there}
+use lib.ListN.{drop}
+use lib.Seq.{drop-drop}
+use Rattle.pieces.specs.Lines.{plainOf}
+use Rattle.pieces.proofs.Found.{plain-end, plain-drop}
 use borrow.Author.Needs.{needs}
 use Rattle.pieces.proofs.find.Statement.{statement}
 use Rattle.pieces.proofs.find.Tie as tie
@@ -19,35 +23,28 @@ seek-requires c κs = search needs
 returns-2 : tie.Need-returns-2
 returns-2 c = search needs
 
-add-if3 : tie.Need-add-if3
-add-if3 c = search needs
+plain-requires : tie.Need-plain-requires
+plain-requires c κs = search needs
 
-shared-slice-read-if3 : tie.Need-shared-slice-read-if3
-shared-slice-read-if3 c = search needs
+add-seek : tie.Need-add-seek
+add-seek c = search needs
 
 seek-requires-2 : tie.Need-seek-requires-2
 seek-requires-2 c κs = search needs
 
 returns-3 : tie.Need-returns-3
-returns-3 c = search needs
-
-plain-requires : tie.Need-plain-requires
-plain-requires c κs = search needs
-
-add-result : tie.Need-add-result
-add-result c = search needs
-
-returns-4 : tie.Need-returns-4
-returns-4 c =
-    let a = c .before .before .before .before .before .before .before .args in
-    let p = plain-there (a .s .now) (a .i) 81 (omega arith) (leb-true 81 _ (sym (c .before .plain .ensures) ∙ c .if4 .taken)) (c .before .before .if3 .left) in
-    omega (arith, p)
+returns-3 c =
+    let p = c .before .before in
+    let a = p .before .before .before .before .args in
+    let d = plain-drop 81 (drop (a .i) (a .s .now)) (leb-true 81 _ (sym (p .plain .ensures) ∙ c .before .if3 .taken)) in
+    let e = ap plainOf (drop-drop 81 (a .i) (a .s .now)) in
+    c .seek2 .ensures ∙ omega arith
 
 seek-requires-3 : tie.Need-seek-requires-3
 seek-requires-3 c κs = search needs
 
-returns-5 : tie.Need-returns-5
-returns-5 c = search needs
+returns-4 : tie.Need-returns-4
+returns-4 c = search needs
 
 pub find-spec : {M : Type 1} → statement M
 find-spec =
@@ -57,12 +54,9 @@ find-spec =
     sub-if2
     seek-requires
     returns-2
-    add-if3
-    shared-slice-read-if3
+    plain-requires
+    add-seek
     seek-requires-2
     returns-3
-    plain-requires
-    add-result
-    returns-4
     seek-requires-3
-    returns-5)
+    returns-4)
