@@ -10,7 +10,7 @@ use Rattle.state.specs.Valid.{resetOf}
 use Rattle.lines.specs.Worked.{line, decodes}
 use Rattle.pieces.specs.Lines.{onFirst, linesOf}
 use Rattle.pieces.specs.Pieces.{textAfter}
-use Rattle.runner.specs.Said.{flagOf, textOf, steppedOf, saidOf}
+use Rattle.runner.specs.Said.{numeralOf, flagOf, textOf, steppedOf, saidOf}
 use Rattle.runner.specs.Run.{replyOf, answerOf, answersOf, runOf}
 use Rattle.demands.specs.Worked.{answer-1-0}
 
@@ -29,7 +29,7 @@ one-line = refl
 
 -- which is answered as its frame is
 said : textOf (saidOf resetOf line .reply) ≡ output
-unfolding output saidOf steppedOf textOf flagOf IF_THEN_ELSE_
+unfolding output saidOf steppedOf textOf numeralOf flagOf IF_THEN_ELSE_
 said = rw (decodes, answer-1-0 .0, answer-1-0 .1, answer-1-0 .2)
 
 -- `WholeCase` of Demands.antt

@@ -13,7 +13,7 @@ use Rattle.rows.proofs.Choice.{either, by-yes, by-no, by-test}
 use Rattle.frames.specs.Frame.{lengthsOk}
 use Rattle.frames.proofs.Frame.{frame-digit}
 use Rattle.lines.specs.Line.{Frame, frameOf, lineOf, formedOf}
-use Rattle.lines.specs.Answers.{rangesOf, refusedOf, acceptedOf, checkedOf, decodedOf, headingOf, readOf, acfAfter, lagsAfter, writeOf, lineAfter}
+use Rattle.lines.specs.Answers.{rangesOf, refusedOf, acceptedOf, checkedOf, parsedOf, decodedOf, headingOf, readOf, acfAfter, lagsAfter, writeOf, lineAfter}
 use Rattle.lines.specs.declared.Decoded.{Decoded}
 use Rattle.lines.specs.declared.Heading.{Heading}
 
@@ -33,6 +33,24 @@ module _ (a : List ℤ) (g : List ℕ) where
 
 -- ---- a line
 module _ (l : List ℕ) where
+  -- its numbers as they stand
+  pub parsed-malformed : formedOf l ≡ false → parsedOf l ≡ refusedOf 6
+  unfolding parsedOf
+  parsed-malformed t = by-no (acceptedOf (frameOf l)) (refusedOf 6) t
+
+  pub parsed-formed : formedOf l ≡ true → parsedOf l ≡ acceptedOf (frameOf l)
+  unfolding parsedOf
+  parsed-formed t = by-yes (acceptedOf (frameOf l)) (refusedOf 6) t
+
+  pub parsed-yes : parsedOf l .refusal ≡ 0 → formedOf l ≡ true
+  unfolding refusedOf
+  parsed-yes e = either (formedOf l ≡ true) (formedOf l) (λ t. t) (λ t. let n = ap (λ (d : Decoded). d .refusal) (parsed-malformed t) in absurd (omega arith))
+
+  pub parsed-no : (parsedOf l .refusal ≡ 0 → ⊥) → formedOf l ≡ false
+  unfolding acceptedOf
+  parsed-no h = either (formedOf l ≡ false) (formedOf l) (λ t. absurd (h (ap (λ (d : Decoded). d .refusal) (parsed-formed t)))) (λ t. t)
+
+  -- and by its numbers
   pub decoded-malformed : formedOf l ≡ false → decodedOf l ≡ refusedOf 6
   unfolding decodedOf
   decoded-malformed t = by-no (checkedOf (frameOf l)) (refusedOf 6) t

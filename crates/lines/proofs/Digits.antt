@@ -71,6 +71,24 @@ pub hex-value : (b : ℕ) → hexOf b ≡ true → valueOf b < 16
 unfolding hexOf
 hex-value b e = ltb-true (valueOf b) 16 e
 
+-- what is no digit is worth 16
+pub value-none : (b : ℕ) → hexOf b ≡ false → valueOf b ≡ 16
+unfolding hexOf valueOf IF_THEN_ELSE_
+value-none b x = let h = ltb-false (valueOf b) 16 x in go h (ltb b 48) (leb b 57) (ltb b 65) (leb b 70) refl refl refl refl
+  where
+    go : 16 ≤ valueOf b → (s t u v : Bool) → ltb b 48 ≡ s → leb b 57 ≡ t → ltb b 65 ≡ u → leb b 70 ≡ v → valueOf b ≡ 16
+    go h true t u v e f g k = rw e
+    go h false true u v e f g k =
+        let l = ltb-false b 48 e in
+        let r = leb-true b 57 f in
+        let q = value-low b l r in absurd (omega arith)
+    go h false false true v e f g k = rw (e, f, g)
+    go h false false false true e f g k =
+        let l = ltb-false b 65 g in
+        let r = leb-true b 70 k in
+        let q = value-high b l r in absurd (omega arith)
+    go h false false false false e f g k = rw (e, f, g, k)
+
 pub hex-digit : (n : ℕ) → n < 16 → hexOf (digitOf n) ≡ true
 unfolding hexOf
 hex-digit n h = rw (value-digit n h) (lt-ltb n 16 h)

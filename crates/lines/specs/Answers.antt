@@ -29,6 +29,10 @@ acceptedOf f = record { refusal = 0; scale = f .scale; acf = f .acf; lags = f .l
 unfoldable pub checkedOf : Frame → Decoded
 checkedOf f = IF eqb (rangesOf f) 0 THEN acceptedOf f ELSE refusedOf (rangesOf f)
 
+-- the numbers of any line as they stand: 6 alone
+unfoldable pub parsedOf : List ℕ → Decoded
+parsedOf l = IF formedOf l THEN acceptedOf (frameOf l) ELSE refusedOf 6
+
 -- any line: 6, and then the others
 unfoldable pub decodedOf : List ℕ → Decoded
 decodedOf l = IF formedOf l THEN checkedOf (frameOf l) ELSE refusedOf 6

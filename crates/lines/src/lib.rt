@@ -94,6 +94,16 @@ fn worth(b: u8) -> u8
     b % 16 + 9 * (b / 64)
 }
 
+// What a character is worth: 0 to 15, or 16 where it is no digit.
+pub fn value(b: u8) -> u8
+    ensures { λ r. ⌜ r ≡ hex.valueOf b ⌝ }
+{
+    if is_hex(b) {
+        return worth(b);
+    }
+    16
+}
+
 // The number that eight digits from `at` on write. Only speed explains the shape: the eight characters are put into one number,
 // a lane of eight bits for each and the first in the lowest, and all are worked on at once.
 fn number(line: &[u8], at: usize) -> u32
@@ -204,9 +214,9 @@ fn refused(n: u8) -> Decoded
     }
 }
 
-// Reads a line: its frame, or the first of 6, 2, 3, 4 that refuses it.
-pub fn decode(line: &[u8]) -> Decoded
-    ensures { λ r. ⌜ r ≡ answer.decodedOf (now (line .entry)) ⌝ }
+// Reads the numbers of a line, whatever they are, or gives 6.
+pub fn parse(line: &[u8]) -> Decoded
+    ensures { λ r. ⌜ r ≡ answer.parsedOf (now (line .entry)) ⌝ }
 {
     if !formed(line) {
         return refused(6);
@@ -214,16 +224,29 @@ pub fn decode(line: &[u8]) -> Decoded
     let acf = acf_of(line);
     let scale = scale_of(line);
     let lags = lags_of(line);
-    let n = frame_refusal(acf, lags, scale);
-    if n != 0 {
-        return refused(n);
-    }
     Decoded {
         refusal: 0,
         scale,
         acf,
         lags,
     }
+}
+
+// Reads a line: its frame, or the first of 6, 2, 3, 4 that refuses it.
+pub fn decode(line: &[u8]) -> Decoded
+    ensures { λ r. ⌜ r ≡ answer.decodedOf (now (line .entry)) ⌝ }
+{
+    let d = parse(line);
+    if d.refusal != 0 {
+        return d;
+    }
+    let acf = d.acf;
+    let lags = d.lags;
+    let n = frame_refusal(acf, lags, d.scale);
+    if n != 0 {
+        return refused(n);
+    }
+    d
 }
 
 // Stores nine numbers into a lent row of nine.

@@ -1,10 +1,10 @@
 -- What one line is answered: the number of its refusal, `vad` and `vvad`, and the state for the next line. A line that is refused leaves the
--- state as it was. The answer's text is these three as digits, and a line feed. Characters are their ASCII codes: 48 is 0, 49 is 1, 10 is a line
--- feed. Assumes nothing.
+-- state as it was. The answer's text is these three as digits, and a line feed. Characters are their ASCII codes: 48 is 0, 49 is 1, 63 is ?, 10 is
+-- a line feed. Assumes nothing.
 use mathlib.Core.Bool.{Bool, false}
 use mathlib.Core.List.{List, [], _∷_}
 use Prim.Native.Nat.{ℕ, _+_}
-use lib.Dec.{eqb}
+use lib.Dec.{eqb, ltb}
 use Rattle.rows.specs.Choice.{IF_THEN_ELSE_}
 use Rattle.counts.specs.declared.Reply.{Reply}
 use Rattle.lines.specs.Answers.{decodedOf}
@@ -37,6 +37,10 @@ answerBytes = 4
 unfoldable pub flagOf : Bool → ℕ
 flagOf b = IF b THEN 49 ELSE 48
 
+-- a number as one character: above 9, which no line is given, `?`
+unfoldable pub numeralOf : ℕ → ℕ
+numeralOf n = IF ltb n 10 THEN 48 + n ELSE 63
+
 -- refusal number, vad, vvad, line feed
 unfoldable pub textOf : Reply → List ℕ
-textOf r = (48 + r .refusal) ∷ flagOf (r .vad) ∷ flagOf (r .vvad) ∷ 10 ∷ []
+textOf r = numeralOf (r .refusal) ∷ flagOf (r .vad) ∷ flagOf (r .vvad) ∷ 10 ∷ []

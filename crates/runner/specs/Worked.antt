@@ -6,14 +6,14 @@ use mathlib.Core.List.{[], _∷_}
 use Rattle.rows.specs.Choice.{IF_THEN_ELSE_}
 use Rattle.pieces.specs.Lines.{onFirst, linesOf}
 use Rattle.pieces.specs.Pieces.{stateAfter, textAfter}
-use Rattle.runner.specs.Said.{saidOf, deniedOf, textOf, flagOf}
+use Rattle.runner.specs.Said.{saidOf, deniedOf, textOf, numeralOf, flagOf}
 use Rattle.runner.specs.Run.{nextOf, replyOf, answerOf, stateOf, answersOf, runOf, repliesFrom, repliesOf}
 use Rattle.lines.specs.Line.{formedOf}
 use Rattle.lines.specs.Answers.{refusedOf, decodedOf}
 
 -- an empty line, then a line cut by the end of the input
 pub cut-line : runOf (10 ∷ 48 ∷ []) ≡ 54 ∷ 48 ∷ 48 ∷ 10 ∷ 54 ∷ 48 ∷ 48 ∷ 10 ∷ []
-unfolding IF_THEN_ELSE_ formedOf refusedOf decodedOf flagOf textOf deniedOf saidOf onFirst linesOf stateAfter textAfter nextOf replyOf answerOf stateOf answersOf runOf
+unfolding IF_THEN_ELSE_ formedOf refusedOf decodedOf numeralOf flagOf textOf deniedOf saidOf onFirst linesOf stateAfter textAfter nextOf replyOf answerOf stateOf answersOf runOf
 cut-line = refl
 
 -- the same as a list of answers

@@ -1,6 +1,6 @@
 // Runs a trace piece by piece: what is unfinished is carried by value.
 ghost use mathlib.Core.Path.{_≡_};
-ghost use Prim.Native.Nat.{_+_, _*_, _≤_, _<_};
+ghost use Prim.Native.Nat.{_+_, _*_, _≤_};
 ghost use lib.ListN.{length};
 ghost use Rattle.pieces.specs.Lines.{linesOf};
 ghost use Rattle.pieces.specs.Put.{putOf};
@@ -88,14 +88,24 @@ fn flag(b: bool) -> u8
     48
 }
 
+// A number as a character.
+fn numeral(n: u8) -> u8
+    ensures { λ r. ⌜ r ≡ one.numeralOf n ⌝ }
+{
+    if n < 10 {
+        return 48 + n;
+    }
+    63
+}
+
 // The four bytes of an answer.
-fn text(r: Reply) -> [u8; ANSWER]
-    requires { ⌜ r .refusal < 10 ⌝ }
+pub fn text(r: Reply) -> [u8; ANSWER]
     ensures { λ t. ⌜ t ≡ one.textOf r ⌝ }
 {
+    let n = numeral(r.refusal);
     let a = flag(r.vad);
     let b = flag(r.vvad);
-    [48 + r.refusal, a, b, 10]
+    [n, a, b, 10]
 }
 
 // ---- a run in pieces

@@ -1,7 +1,7 @@
 -- `runner::finish` answers what is carried, if anything is. Assumes nothing.
 use borrow.Author.Needs.{needs}
-use mathlib.Core.Path.{_≡_, sym, ap, subst, _∙_}
-use Prim.Native.Nat.{_<_, _≤_}
+use mathlib.Core.Path.{_≡_, sym, ap, _∙_}
+use Prim.Native.Nat.{_≤_}
 use native.Mathlib.Omega.{arith}
 use borrow.Author.Tests.{eq-eqb, ne-eqb}
 use lib.ListN.{length}
@@ -14,7 +14,6 @@ use Rattle.runner.specs.declared.Said.{Said}
 use Rattle.runner.specs.Said.{textOf}
 use Rattle.runner.specs.Run.{replyOf, answerOf}
 use Rattle.runner.specs.Fed.{finishOf}
-use Rattle.runner.proofs.Steps.{said-small}
 use Rattle.runner.proofs.finish.Statement.{statement}
 use Rattle.runner.proofs.finish.Tie as tie
 
@@ -37,7 +36,7 @@ answer-requires : tie.Need-answer-requires
 answer-requires c κs = search needs
 
 text-requires : tie.Need-text-requires
-text-requires c κs = subst (λ (x : Said). x .reply .refusal < 10) (sym (c .before .answer .ensures)) (said-small _ _)
+text-requires c κs = search needs
 
 -- the answer to what is carried
 said : (c : tie.After-text) → c .text .result ≡ answerOf (c .before .before .before .before .before .before .before .before .args .r .state) (heldOf (c .before .before .before .before .before .before .before .before .args .r .finder))

@@ -1,6 +1,6 @@
 -- `runner::run` answers line after line. Assumes nothing.
 use borrow.Author.Needs.{needs}
-use mathlib.Core.Path.{sym, ap, ap₂, subst, _∙_}
+use mathlib.Core.Path.{ap, ap₂, _∙_}
 use Prim.Native.Nat.{ℕ, _+_, _-_, _<_, _≤_}
 use native.Mathlib.Omega.{arith}
 use lib.ListN.{length}
@@ -13,7 +13,7 @@ use Rattle.runner.specs.declared.Ran.{Ran}
 use Rattle.runner.specs.Said.{textOf}
 use Rattle.runner.specs.Run.{nextOf, replyOf, answerOf, stateOf, answersOf}
 use Rattle.runner.specs.Fed.{ranOf}
-use Rattle.runner.proofs.Steps.{said-small, text-four, answer-most}
+use Rattle.runner.proofs.Steps.{text-four, answer-most}
 use Rattle.runner.proofs.run.Statement.{statement}
 use Rattle.runner.proofs.run.Tie as tie
 
@@ -51,7 +51,7 @@ answer-requires : tie.Need-answer-requires Inv-loop μ-loop
 answer-requires c κs = search needs
 
 text-requires : tie.Need-text-requires Inv-loop μ-loop
-text-requires c κs = subst (λ (x : Said). x .reply .refusal < 10) (sym (c .before .answer .ensures)) (said-small _ _)
+text-requires c κs = search needs
 
 slice-aggregate-put : tie.Need-slice-aggregate-put Inv-loop μ-loop
 slice-aggregate-put c = search needs
