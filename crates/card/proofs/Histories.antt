@@ -1,0 +1,115 @@
+-- Orders one after the other: the bank keeps its size, and the state of a channel is what its own accepted frames since its own last reset leave.
+-- Assumes nothing.
+use mathlib.Core.Path.{_≡_, refl, sym, ap, subst, _∙_}
+use mathlib.Core.Logic.{_≢_}
+use mathlib.Core.Bool.{true, false, _&&_}
+use mathlib.Core.List.{List, [], _∷_, _++_}
+use Prim.Native.Nat.{ℕ}
+use borrow.Author.Tests.{eqb-true, eqb-false}
+use lib.Dec.{T as Holds, eqb}
+use lib.ListN.{length, set, length-set, getD-replicate, length-replicate}
+use lib.Seq.{getD-set-same, getD-set-other, set-getD}
+use Rattle.rows.proofs.Choice.{by-test, either, and-left}
+use Rattle.frames.specs.Frame.{Frame}
+use Rattle.state.specs.declared.State.{State}
+use Rattle.state.specs.Valid.{resetOf}
+use Rattle.detector.specs.Run.{answerTo, stateFrom}
+use Rattle.detector.proofs.Run.{as-given}
+use Rattle.card.specs.declared.Called.{Called}
+use Rattle.card.specs.Card.{Order, call, reset, channelOf, inBank, stateAt, calledOf, numberOnly, nextFor, saidFor, answerOf, bankAfter}
+use Rattle.card.specs.History.{allReset, bankFrom, heardFrom, heard}
+use Rattle.card.proofs.Orders.{answer-in, bank-in, bank-out}
+use Rattle.card.proofs.Shared.{inside}
+
+-- ---- one order
+said-given : (o : Order) (s : State) → saidFor o s .refusal ≢ 0 → nextFor o s ≡ s
+unfolding saidFor calledOf numberOnly nextFor
+said-given (call i f) s h = as-given s f h
+said-given (reset i) s h = absurd (h refl)
+
+module _ (bank : List State) (o : Order) where
+  pub size : length (bankAfter bank o) ≡ length bank
+  unfolding bankAfter
+  size = by-test (λ (b : List State). length b ≡ length bank) (inBank (length bank) (channelOf o)) _ _ (λ _. length-set bank (channelOf o) _) (λ _. refl)
+
+  pub others : (i : ℕ) → i ≢ channelOf o → stateAt (bankAfter bank o) i ≡ stateAt bank i
+  unfolding bankAfter stateAt
+  others i h = by-test (λ (b : List State). stateAt b i ≡ stateAt bank i) (inBank (length bank) (channelOf o)) _ _ (λ _. getD-set-other bank (channelOf o) i _ resetOf h) (λ _. refl)
+
+  pub stepped : inBank (length bank) (channelOf o) ≡ true → stateAt (bankAfter bank o) (channelOf o) ≡ nextFor o (stateAt bank (channelOf o))
+  unfolding stateAt
+  stepped t =
+      ap (λ (b : List State). stateAt b (channelOf o)) (bank-in bank o t)
+      ∙ getD-set-same bank (channelOf o) _ resetOf (inside (length bank) (channelOf o) (subst Holds (sym t) tt))
+
+  -- what is refused leaves every state as it was
+  pub refused : answerOf bank o .refusal ≢ 0 → bankAfter bank o ≡ bank
+  unfolding stateAt
+  refused h =
+      either (bankAfter bank o ≡ bank) (inBank (length bank) (channelOf o))
+      (λ t.
+      bank-in bank o t
+      ∙ (ap (set bank (channelOf o)) (said-given o (stateAt bank (channelOf o)) (λ e. h (ap (λ (a : Called). a .refusal) (answer-in bank o t) ∙ e)))
+      ∙ set-getD bank (channelOf o) resetOf))
+      (bank-out bank o)
+
+-- ---- orders one after the other
+pub sizes : (bank : List State) (os : List Order) → length (bankFrom bank os) ≡ length bank
+unfolding bankFrom
+sizes bank [] = refl
+sizes bank (o ∷ os) = sizes (bankAfter bank o) os ∙ size bank o
+
+-- a frame more
+state-more : (s : State) (fs : List Frame) (f : Frame) → stateFrom s (fs ++ (f ∷ [])) ≡ answerTo (stateFrom s fs) f .next
+unfolding stateFrom
+state-more s [] f = refl
+state-more s (g ∷ fs) f = state-more (answerTo s g .next) fs f
+
+-- channel i, which is in the bank, where fs are its frames so far
+module _ (i : ℕ) where
+  On : List State → List Frame → Type 0
+  On bank fs = stateAt bank i ≡ stateFrom resetOf fs
+
+  on-call : (bank : List State) (fs : List Frame) (j : ℕ) (f : Frame) → inBank (length bank) i ≡ true → On bank fs → j ≡ i → On (bankAfter bank (call j f)) (fs ++ (f ∷ []))
+  unfolding On channelOf nextFor
+  on-call bank fs j f t h e =
+      ap (λ (k : ℕ). stateAt (bankAfter bank (call k f)) i) e
+      ∙ (stepped bank (call i f) t ∙ (ap (λ (s : State). answerTo s f .next) h ∙ sym (state-more resetOf fs f)))
+
+  on-reset : (bank : List State) (j : ℕ) → inBank (length bank) i ≡ true → j ≡ i → On (bankAfter bank (reset j)) []
+  unfolding On channelOf nextFor stateFrom
+  on-reset bank j t e = ap (λ (k : ℕ). stateAt (bankAfter bank (reset k)) i) e ∙ stepped bank (reset i) t
+
+  on-other : (bank : List State) (fs : List Frame) (o : Order) → On bank fs → (channelOf o ≡ i → ⊥) → On (bankAfter bank o) fs
+  unfolding On
+  on-other bank fs o h n = others bank o i (λ e. n (sym e)) ∙ h
+
+  pub on-all : (os : List Order) (bank : List State) (fs : List Frame) → inBank (length bank) i ≡ true → stateAt bank i ≡ stateFrom resetOf fs → stateAt (bankFrom bank os) i ≡ stateFrom resetOf (heardFrom bank i fs os)
+  unfolding bankFrom heardFrom On channelOf
+  on-all [] bank fs t h = h
+  on-all (call j f ∷ os) bank fs t h =
+      let o = call j f in
+      let a = answerOf bank o .refusal in
+      on-all os (bankAfter bank o) _ (ap (λ (n : ℕ). inBank n i) (size bank o) ∙ t)
+      (by-test (On (bankAfter bank o)) (eqb j i && eqb a 0) _ _
+      (λ e. on-call bank fs j f t h (eqb-true j i (and-left (eqb j i) (eqb a 0) e)))
+      (λ e.
+      either (On (bankAfter bank o) fs) (eqb j i)
+      (λ y. ap (λ (b : List State). stateAt b i) (refused bank o (eqb-false a 0 (rw y at e))) ∙ h)
+      (λ y. on-other bank fs o h (eqb-false j i y))))
+  on-all (reset j ∷ os) bank fs t h =
+      on-all os (bankAfter bank (reset j)) _ (ap (λ (n : ℕ). inBank n i) (size bank (reset j)) ∙ t)
+      (by-test (On (bankAfter bank (reset j))) (eqb j i) _ _ (λ e. on-reset bank j t (eqb-true j i e)) (λ e. on-other bank fs (reset j) h (eqb-false j i e)))
+
+-- ---- a channel that is as after a reset; in a bank that was all reset each of them is
+pub heard-state : (bank : List State) (i : ℕ) (os : List Order) → inBank (length bank) i ≡ true → stateAt bank i ≡ resetOf → stateAt (bankFrom bank os) i ≡ stateFrom resetOf (heard bank i os)
+unfolding heard stateFrom
+heard-state bank i os t h = on-all i os bank [] t h
+
+pub reset-size : (n : ℕ) → length (allReset n) ≡ n
+unfolding allReset
+reset-size n = length-replicate n resetOf
+
+pub reset-state : (n i : ℕ) → inBank n i ≡ true → stateAt (allReset n) i ≡ resetOf
+unfolding allReset stateAt
+reset-state n i t = getD-replicate n i resetOf resetOf (inside n i (subst Holds (sym t) tt))

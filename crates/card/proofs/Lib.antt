@@ -1,0 +1,4 @@
+pub mod Orders
+pub mod Shared
+pub mod Histories
+pub mod Asked

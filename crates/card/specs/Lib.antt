@@ -1,0 +1,4 @@
+pub mod Card
+pub mod History
+pub mod Asked
+pub mod Instances
