@@ -1,10 +1,11 @@
 //! Measures the programs and the steps beside each other, for compare/bench, which says what is printed.
 //!
-//!     bench grow RUN_TRACE SECOND ROUNDS FILE..   a line for each file: frames, best seconds of each program, best of its processor's, peak kB
+//!     bench grow RUN_TRACE SECOND ROUNDS FILE..   a line for each file: lines, best seconds of each program, best of its processor's, peak kB
 //!     bench second FILE STEPS [SAMPLES]           STEPS steps of the second implementation over the frames of FILE, again and again
 //!     bench steps FILE STEPS ROUNDS [SAMPLES]     these and the library's in turn: best seconds of each, best of the processor's
 //!
-//! With SAMPLES, those of the frames of FILE, the steps are the downlink's.
+//! With SAMPLES, those of the frames of FILE, the steps are the downlink's. RUN_TRACE and SECOND may be other programs that answer a line with four
+//! bytes, and SECOND have a word after a blank, as in 'second card'.
 #[allow(dead_code)]
 #[path = "../crates/lindenflax/lindenflax.rs"]
 mod lindenflax;
@@ -114,10 +115,24 @@ fn timed(f: impl FnOnce() -> usize) -> (f64, f64, usize) {
     (start.elapsed().as_secs_f64(), own() - before, speech)
 }
 
+/// A program and the words after it.
+fn command(program: &str) -> Command {
+    let mut words = program.split(' ');
+    let mut command = Command::new(words.next().unwrap());
+    command.args(words);
+    command
+}
+
+/// How many lines a file has.
+fn lines(path: &str) -> u64 {
+    let text = std::fs::read(path).unwrap_or_else(|e| fail(&format!("{path}: {e}")));
+    text.iter().filter(|b| **b == b'\n').count() as u64
+}
+
 /// Runs a program on a file, its answers to nowhere: seconds, the processor's seconds, and peak kB as the system tells at its end.
 fn run(program: &str, path: &str) -> (f64, f64, i64) {
     let start = Instant::now();
-    let child = Command::new(program).arg(path).stdout(Stdio::null()).spawn().unwrap_or_else(|e| fail(&format!("{program}: {e}")));
+    let child = command(program).arg(path).stdout(Stdio::null()).spawn().unwrap_or_else(|e| fail(&format!("{program}: {e}")));
     let (mut status, mut usage) = (0, [0i64; 18]);
     if unsafe { wait4(child.id() as i32, &mut status, 0, &mut usage) } < 0 || status != 0 {
         fail(&format!("{program} {path}: status {status}"));
@@ -127,10 +142,9 @@ fn run(program: &str, path: &str) -> (f64, f64, i64) {
 
 /// The peak kB of a program that answers line by line, asked when it has answered the last line and before it ends.
 fn peak(program: &str, path: &str) -> i64 {
-    let mut child = Command::new(program).stdin(Stdio::piped()).stdout(Stdio::piped()).spawn().unwrap_or_else(|e| fail(&format!("{program}: {e}")));
+    let mut child = command(program).stdin(Stdio::piped()).stdout(Stdio::piped()).spawn().unwrap_or_else(|e| fail(&format!("{program}: {e}")));
     let mut to = child.stdin.take().unwrap();
     let mut from = child.stdout.take().unwrap();
-    let bytes = std::fs::metadata(path).unwrap_or_else(|e| fail(&format!("{path}: {e}"))).len();
     let name = path.to_string();
     let writer = std::thread::spawn(move || {
         let mut file = File::open(name)?;
@@ -142,7 +156,7 @@ fn peak(program: &str, path: &str) -> i64 {
             }
         }
     });
-    let (mut left, mut piece) = (bytes / LINE as u64 * 4, [0u8; 65536]);
+    let (mut left, mut piece) = (lines(path) * 4, [0u8; 65536]);
     while left > 0 {
         match from.read(&mut piece) {
             Ok(n) if n > 0 => left -= n as u64,
@@ -163,14 +177,13 @@ fn main() {
     match word(0) {
         "grow" => {
             for path in &args[4..] {
-                let frames = std::fs::metadata(path).unwrap_or_else(|e| fail(&format!("{path}: {e}"))).len() / LINE as u64;
                 let (mut a, mut b) = ((f64::MAX, f64::MAX), (f64::MAX, f64::MAX, 0));
                 for _ in 0..count(3) {
                     let (x, y) = (run(word(1), path), run(word(2), path));
                     a = (a.0.min(x.0), a.1.min(x.1));
                     b = (b.0.min(y.0), b.1.min(y.1), b.2.max(y.2));
                 }
-                println!("{frames} {:.6} {:.6} {:.6} {:.6} {} {}", a.0, b.0, a.1, b.1, peak(word(1), path), b.2);
+                println!("{} {:.6} {:.6} {:.6} {:.6} {} {}", lines(path), a.0, b.0, a.1, b.1, peak(word(1), path), b.2);
             }
         }
         "second" => println!("{}", other(&frames(word(1), args.get(3)), count(2))),

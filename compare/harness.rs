@@ -1,14 +1,15 @@
 //! Feeds the detector and the second program the same input, and stops at the first difference.
 //!
-//!     harness RUN_TRACE NIGHT_TOTALS WHY_TRACE RUN_DOWNLINK CALLS TRACES SEED
+//!     harness RUN_TRACE NIGHT_TOTALS WHY_TRACE RUN_DOWNLINK RUN_CARD CALLS TRACES SEED
 //!
-//! RUN_TRACE, NIGHT_TOTALS, WHY_TRACE and RUN_DOWNLINK are the programs and CALLS that of calls.c, which calls the static library; compare/on_x86_64
-//! runs them all. TRACES is a folder of NAME.trace with NAME.expected beside it, and TRACES/downlink one with NAME.s16 too. SEED is a number.
+//! RUN_TRACE, NIGHT_TOTALS, WHY_TRACE, RUN_DOWNLINK and RUN_CARD are the programs and CALLS that of calls.c, which calls the static library;
+//! compare/on_x86_64 runs them all. TRACES is a folder of NAME.trace with NAME.expected beside it, as TRACES/card is with traces of a card, and
+//! TRACES/downlink one with NAME.s16 too. SEED is a number.
 #[allow(dead_code)]
 #[path = "second.rs"]
 mod second;
 
-use second::{Answer, Memory, LINE, SAMPLES};
+use second::{Answer, Memory, CHANNELS, LINE, SAMPLES};
 use std::io::{Read, Write};
 use std::process::{exit, Command, Stdio};
 
@@ -373,19 +374,25 @@ fn write_line(acf: &[i64], lags: &[i64], scale: i64) -> Vec<u8> {
 fn any_line(r: &mut Random, (acf, lags, scale): &(Vec<i64>, Vec<i64>, i64)) -> Vec<u8> {
     let mut line = write_line(acf, lags, *scale);
     if r.one_in(12) {
-        let at = r.from(0, 80) as usize;
-        match r.next() % 8 {
-            0 => line[at] = b'a' + (r.next() % 6) as u8,
-            1 => line[at] = r.next() as u8,
-            2 => drop(line.remove(at)),
-            3 => line.insert(at, b'0'),
-            4 => line.insert(81, b'\r'),
-            5 => line = b"\n".to_vec(),
-            6 => line.splice(at..at, vec![b'F'; r.from(1, 300) as usize]).for_each(drop),
-            _ => line[at] = b'\n',
-        }
+        damage(r, &mut line);
     }
     line
+}
+
+/// Damages a line, of which the last byte is its line feed.
+fn damage(r: &mut Random, line: &mut Vec<u8>) {
+    let last = line.len() - 1;
+    let at = r.from(0, last as i64 - 1) as usize;
+    match r.next() % 8 {
+        0 => line[at] = b'a' + (r.next() % 6) as u8,
+        1 => line[at] = r.next() as u8,
+        2 => drop(line.remove(at)),
+        3 => line.insert(at, b'0'),
+        4 => line.insert(last, b'\r'),
+        5 => *line = b"\n".to_vec(),
+        6 => line.splice(at..at, vec![b'F'; r.from(1, 300) as usize]).for_each(drop),
+        _ => line[at] = b'\n',
+    }
 }
 
 /// A file of samples for so many lines, new ones for one in so many of them; now and then too short, too long, or cut inside a number.
@@ -423,6 +430,137 @@ fn any_trace(r: &mut Random, lines: usize, new: u64) -> Vec<u8> {
         out.truncate(out.len().saturating_sub(cut));
     }
     out
+}
+
+/// What is said on a channel: the lines of a kept trace from some place on, again and again, or where there are none a frame that is a new one now
+/// and then.
+struct Talk<'a> {
+    lines: Vec<&'a [u8]>,
+    at: usize,
+    frame: (Vec<i64>, Vec<i64>, i64),
+}
+
+impl Talk<'_> {
+    fn next(&mut self, r: &mut Random) -> Vec<u8> {
+        if !self.lines.is_empty() {
+            self.at = (self.at + 1) % self.lines.len();
+            return self.lines[self.at].to_vec();
+        }
+        if r.one_in(10) {
+            self.frame = any_frame(r);
+        }
+        write_line(&self.frame.0, &self.frame.1, self.frame.2)
+    }
+}
+
+/// A card's trace, on these channels in any order: frames and resets, channels that the card has not, and damaged lines.
+fn any_card(r: &mut Random, kept: &[Vec<u8>], channels: &[i64], lines: usize) -> Vec<u8> {
+    let talk = |r: &mut Random| {
+        let trace = &kept[r.next() as usize % kept.len()];
+        let lines: Vec<&[u8]> = if r.one_in(3) { vec![] } else { trace.split_inclusive(|b| *b == b'\n').collect() };
+        Talk { lines, at: r.next() as usize % 300, frame: any_frame(r) }
+    };
+    let mut talks: Vec<Talk> = (0..256).map(|_| talk(r)).collect();
+    let mut out = Vec::new();
+    for _ in 0..lines {
+        let channel = if r.one_in(40) { r.from(CHANNELS as i64, 255) } else { channels[r.next() as usize % channels.len()] };
+        let mut line = format!("{channel:02X}").into_bytes();
+        if r.one_in(30) {
+            line.push(b'\n');
+        } else {
+            line.extend(talks[channel as usize].next(r));
+        }
+        match r.next() % 100 {
+            0..=5 => damage(r, &mut line),
+            // a line with no channel, one with a blank after it, and one that names it in lower case
+            6 => drop(line.drain(..2)),
+            7 => line.insert(2, b' '),
+            8 => line[..2].make_ascii_lowercase(),
+            _ => {}
+        }
+        out.extend(line);
+    }
+    // the end of the input cuts the last line anywhere, or where its line feed alone is missing, or a reset's
+    match r.next() % 4 {
+        0 => out.truncate(out.len().saturating_sub(r.from(1, LINE as i64 + 2) as usize)),
+        1 => drop(out.pop()),
+        2 => out.extend(format!("{:02X}", channels[0]).into_bytes()),
+        _ => {}
+    }
+    out
+}
+
+/// What the lines of card traces were: how many have each refusal number, how many are resets, how many are cut; the channels; and the runs of one
+/// channel that were held to run_trace.
+#[derive(Default)]
+struct Told {
+    refused: [usize; 10],
+    resets: usize,
+    cut: usize,
+    channels: std::collections::BTreeSet<usize>,
+    alone: usize,
+}
+
+impl Told {
+    fn lines(&self) -> usize {
+        self.refused.iter().sum()
+    }
+    /// Stops where a kind of line has not come up.
+    fn each_kind(&self) {
+        let mut kinds = [0, 2, 3, 4, 6, 9].map(|n| self.refused[n]).into_iter().chain([self.resets, self.cut, self.alone]);
+        if kinds.any(|n| n == 0) || self.channels.len() != CHANNELS {
+            fail(&format!("a kind of line has not come up: refused {:?}, {} cut; {self}", self.refused, self.cut));
+        }
+    }
+}
+
+impl std::fmt::Display for Told {
+    fn fmt(&self, f: &mut std::fmt::Formatter) -> std::fmt::Result {
+        let Told { refused, resets, channels, alone, .. } = self;
+        write!(f, "lines on {} channels: {resets} resets, {} refused with 6 and {} with 9; ", channels.len(), refused[6], refused[9])?;
+        write!(f, "{alone} runs of one channel by run_trace too")
+    }
+}
+
+/// The card's program on a trace that comes in pieces: its answers are the right ones, and those of a channel, from each of its resets on, are those of
+/// one detector by itself over the channel's own lines. The second program is asked for all of these runs, and run_trace for some.
+fn held_card(programs: &[String], what: &str, trace: &[u8], right: &[u8], told: &mut Told, r: &mut Random) {
+    held(what, trace, &written(&programs[4], &[], trace, || r.from(1, 70000) as usize), right);
+    let mut now = vec![(Vec::new(), Vec::new()); CHANNELS];
+    let mut runs = Vec::new();
+    for (line, answer) in trace.split_inclusive(|b| *b == b'\n').zip(right.chunks(4)) {
+        let formed = [3, LINE + 2].contains(&line.len()) && line.ends_with(b"\n") && line[..line.len() - 1].iter().all(|b| b"0123456789ABCDEF".contains(b));
+        let channel = if formed { usize::from_str_radix(std::str::from_utf8(&line[..2]).unwrap(), 16).unwrap() } else { 0 };
+        let must = match line.len() {
+            _ if !formed => "600\n",
+            _ if channel >= CHANNELS => "900\n",
+            3 => "000\n",
+            _ => "",
+        };
+        if !answer.starts_with(must.as_bytes()) || must.is_empty() && b"69".contains(&answer[0]) {
+            fail(&format!("{what} (second program): {} to {}", String::from_utf8_lossy(answer), String::from_utf8_lossy(line)));
+        }
+        told.refused[(answer[0] - b'0') as usize] += 1;
+        told.cut += !line.ends_with(b"\n") as usize;
+        if must.is_empty() {
+            told.channels.insert(channel);
+            now[channel].0.extend(&line[2..]);
+            now[channel].1.extend(answer);
+        } else if must == "000\n" {
+            told.resets += 1;
+            runs.push(std::mem::take(&mut now[channel]));
+        }
+    }
+    runs.extend(now);
+    runs.retain(|(lines, _)| !lines.is_empty());
+    for (lines, answers) in &runs {
+        held(&format!("{what}, a channel by itself (second program)"), lines, answers, &second::run(lines));
+    }
+    for _ in 0..runs.len().min(3) {
+        let (lines, answers) = &runs[r.next() as usize % runs.len()];
+        held(&format!("{what}, a channel by itself"), lines, answers, &written(&programs[0], &[], lines, || usize::MAX));
+        told.alone += 1;
+    }
 }
 
 /// A line read through the static library into buffers of these lengths, each with one number more behind it, held to the second program's.
@@ -741,17 +879,17 @@ fn traces_of(folder: &str) -> Vec<(std::path::PathBuf, Vec<u8>)> {
 
 fn main() {
     let args: Vec<String> = std::env::args().collect();
-    if args.len() != 8 {
-        eprintln!("usage: harness RUN_TRACE NIGHT_TOTALS WHY_TRACE RUN_DOWNLINK CALLS TRACES SEED");
+    if args.len() != 9 {
+        eprintln!("usage: harness RUN_TRACE NIGHT_TOTALS WHY_TRACE RUN_DOWNLINK RUN_CARD CALLS TRACES SEED");
         exit(2);
     }
-    let programs = &args[1..5];
-    let folder = &args[6];
-    let seed: u64 = args[7].parse().expect("a number");
+    let programs = &args[1..6];
+    let folder = &args[7];
+    let seed: u64 = args[8].parse().expect("a number");
     let mut r = Random(seed | 1);
 
     // the traces of the repository: both programs, and the answers that are kept
-    let (mut traces, mut lines) = (0, 0);
+    let (mut traces, mut lines, mut kept_traces) = (0, 0, Vec::new());
     for (path, trace) in traces_of(folder) {
         let kept = std::fs::read(path.with_extension("expected")).unwrap();
         let what = path.display().to_string();
@@ -759,6 +897,7 @@ fn main() {
         held_programs(programs, &what, &trace, &kept, &mut r);
         traces += 1;
         lines += kept.len() / 4;
+        kept_traces.push(trace);
     }
     println!("{traces} traces of {lines} lines, their totals and their explanations");
     let (mut traces, mut kept_samples) = (0, Vec::new());
@@ -772,6 +911,15 @@ fn main() {
         traces += 1;
     }
     println!("{traces} downlink traces of {} lines and their explanations", kept_samples.len());
+    let (mut traces, mut told) = (0, Told::default());
+    for (path, trace) in traces_of(&format!("{folder}/card")) {
+        let kept = std::fs::read(path.with_extension("expected")).unwrap();
+        let what = path.display().to_string();
+        held(&format!("{what} (second program)"), &trace, &second::run_card(&trace), &kept);
+        held_card(programs, &what, &trace, &kept, &mut told, &mut r);
+        traces += 1;
+    }
+    println!("{traces} card traces of {} {told}", told.lines());
 
     // random and damaged lines, in pieces; in half of the traces frames stay alike, so that the threshold adapts
     let mut random = 0;
@@ -797,8 +945,20 @@ fn main() {
     }
     println!("{random} random and damaged downlink lines and their explanations, {short} of them with too few samples");
 
+    // a card's: on two neighbours, on a few channels, and on all of them
+    let mut told = Told::default();
+    for n in [0, 1, 2, 3, 50, 1000, 12000] {
+        let some = r.from(0, CHANNELS as i64 - 2);
+        for channels in [vec![0, 1], vec![62, 63], vec![some, some + 1], (0..64).step_by(9).collect(), (0..64).collect()] {
+            let trace = any_card(&mut r, &kept_traces, &channels, n);
+            held_card(programs, "random card lines", &trace, &second::run_card(&trace), &mut told, &mut r);
+        }
+    }
+    told.each_kind();
+    println!("{} random and damaged card {told}", told.lines());
+
     // random valid states and frames, one step each, and runs of them
-    let library = &mut Library { program: &args[5], waiting: Vec::new() };
+    let library = &mut Library { program: &args[6], waiting: Vec::new() };
     let mut steps = 0;
     for _ in 0..400_000 {
         let m = any_state(&mut r);

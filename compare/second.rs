@@ -6,6 +6,9 @@ pub const LINE: usize = 82;
 /// The samples of a frame, which only the downlink is given.
 pub const SAMPLES: usize = 160;
 
+/// The calls that a card carries.
+pub const CHANNELS: usize = 64;
+
 /// The most lines that the totals count, and the most frames that are numbered.
 const MOST: u64 = 0xFFFF_FFFF;
 
@@ -521,9 +524,13 @@ fn prederr(rc: &[i64; 5]) -> i64 {
 
 // ---- trace lines
 
+/// What a digit is worth.
+fn digit(b: u8) -> Option<i64> {
+    b"0123456789ABCDEF".iter().position(|d| *d == b).map(|v| v as i64)
+}
+
 /// A line with its line feed: the frame, or refusal 6, 2, 3 or 4.
 pub fn decode(line: &[u8]) -> Result<(Vec<i64>, Vec<i64>, i64), i64> {
-    let digit = |b: u8| b"0123456789ABCDEF".iter().position(|d| *d == b).map(|v| v as i64);
     if line.len() != LINE || line[81] != b'\n' {
         return Err(6);
     }
@@ -571,6 +578,42 @@ pub fn run(trace: &[u8]) -> Vec<u8> {
 pub fn run_downlink(trace: &[u8], samples: &[u8]) -> Vec<u8> {
     let mut out = Vec::with_capacity(trace.len() / LINE * 5 + 5);
     answers(trace, Some(samples), |a| out.extend([48 + a.refusal as u8, 48 + a.vad as u8, 48 + a.vvad as u8, 48 + a.next.tone as u8, b'\n']));
+    out
+}
+
+// ---- a card
+
+/// The answers to a whole trace of a card. A line has two digits that name a channel and then a line of the uplink, which is a call; or a line feed
+/// alone, which resets the channel. What is neither is refused with 6, and of the others a channel that the card has not with 9, before all else.
+pub fn run_card(trace: &[u8]) -> Vec<u8> {
+    let mut out = Vec::with_capacity(trace.len() / (LINE + 2) * 4 + 4);
+    let mut card = vec![Memory::reset(); CHANNELS];
+    for line in trace.split_inclusive(|b| *b == b'\n') {
+        let (name, rest) = line.split_at(line.len().min(2));
+        let channel = match name {
+            [high, low] => digit(*high).zip(digit(*low)).map(|(high, low)| (16 * high + low) as usize),
+            _ => None,
+        };
+        let reset = rest == b"\n";
+        let frame = decode(rest);
+        let (refusal, vad, vvad) = match (channel, frame) {
+            (None, _) => (6, 0, 0),
+            (_, Err(6)) if !reset => (6, 0, 0),
+            (Some(channel), _) if channel >= CHANNELS => (9, 0, 0),
+            (Some(channel), _) if reset => {
+                card[channel] = Memory::reset();
+                (0, 0, 0)
+            }
+            (_, Err(n)) => (n, 0, 0),
+            (Some(channel), Ok((acf, lags, scal))) => {
+                let memory = &mut card[channel];
+                let answer = step(&acf, &lags, scal, memory);
+                *memory = answer.next;
+                (answer.refusal, answer.vad, answer.vvad)
+            }
+        };
+        out.extend([48 + refusal as u8, 48 + vad as u8, 48 + vvad as u8, b'\n']);
+    }
     out
 }
 

@@ -2,6 +2,7 @@
 //!
 //!     second [FILE..]                             the answers
 //!     second downlink FILE SAMPLES                those of a downlink trace, whose frames have 320 bytes of the file SAMPLES each
+//!     second card [FILE..]                        those of a card's trace, whose lines name a channel each
 //!     second totals [--after DIGITS] [FILE..]     for each file the line of its totals, after those that 40 digits write
 //!     second why [--after NUMBER] [FILE..]        for each line why its frame was sent or not, after so many accepted frames
 //!     second why [--after NUMBER] --samples SAMPLES [FILE..]    the same on the downlink
@@ -19,7 +20,7 @@ fn main() {
     let (command, after, files) = match &words[..] {
         [command @ ("totals" | "why"), "--after", after, files @ ..] => (*command, *after, files),
         [command @ ("totals" | "why"), files @ ..] => (*command, nothing.as_str(), files),
-        ["downlink", files @ ..] => ("downlink", "", files),
+        [command @ ("downlink" | "card"), files @ ..] => (*command, "", files),
         files => ("run", "", files),
     };
     let (samples, files) = match (command, files) {
@@ -44,6 +45,7 @@ fn main() {
             }
             "why" => (0, second::why(after.parse().expect("a number"), &trace, samples.as_deref())),
             "downlink" => (0, second::run_downlink(&trace, samples.as_deref().expect("the samples"))),
+            "card" => (0, second::run_card(&trace)),
             _ => (0, second::run(&trace)),
         };
         std::io::stdout().write_all(&text).expect("the answers");

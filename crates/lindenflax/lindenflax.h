@@ -2,6 +2,8 @@
  * The voice activity detector of GSM 06.32, one frame at a time, on the uplink and on the downlink, and the lines of a trace.
  *
  * Each channel has one state of its own. The library keeps nothing between calls and allocates nothing: calls on different states may run at the same time.
+ * A card with many channels keeps a run of numbers for each, as int32_t bank[64][LINDENFLAX_STATE]. A call is lent the run of its channel and touches no
+ * other; whether the bank has such a channel is the caller's test, since nothing here knows the bank.
  *
  * To build a program with it, here crates/lindenflax/example.c:
  *

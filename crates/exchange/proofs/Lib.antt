@@ -1,0 +1,4 @@
+pub mod Form
+pub mod Steps
+pub mod Calls
+pub mod Orders
