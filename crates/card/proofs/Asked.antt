@@ -22,8 +22,8 @@ use Rattle.card.specs.declared.Called.{Called}
 use Rattle.card.specs.Card.{Order, call, reset, channelOf, inBank, stateAt, calledOf, numberOnly, nextFor, saidFor, answerOf, bankAfter}
 use Rattle.card.specs.History.{allReset, bankFrom, heard}
 use Rattle.card.specs.Asked.{OneOrder, TwoOrders, OnChannel, Asked}
-use Rattle.card.proofs.Orders.{answer-in, answer-out, bank-in, bank-out}
-use Rattle.card.proofs.Histories.{size, others, refused, stepped, sizes, heard-state, reset-size, reset-state}
+use Rattle.card.proofs.Orders.{answer-in, answer-out}
+use Rattle.card.proofs.Histories.{size, others, refused, stepped, sizes, heard-state, own, reset-size, reset-state}
 
 -- ---- the number 9 is the card's own
 refusal-below : (samples : Bool) (L-ACF : List ℤ) (lags : List ℕ) (scalvad : ℤ) (s : State) → refusalOf samples L-ACF lags scalvad s < 9
@@ -155,4 +155,4 @@ module _ (n i : ℕ) (f : Frame) where
       (λ t. not-in os t ∙ sym (not-in os′ t))
 
 pub asked : Asked
-asked = record { one = one-order; two = two-orders; on = on-channel; alone = alone; only = λ n i os os′ f. only n i f os os′ }
+asked = record { one = one-order; two = two-orders; on = on-channel; alone = alone; own = own; only = λ n i os os′ f. only n i f os os′ }

@@ -1,6 +1,6 @@
--- Orders one after the other: the bank keeps its size, and the state of a channel is what its own accepted frames since its own last reset leave.
--- Assumes nothing.
-use mathlib.Core.Path.{_≡_, refl, sym, ap, subst, _∙_}
+-- Orders one after the other: the bank keeps its size, the state of a channel is what its own accepted frames since its own last reset leave, and which
+-- these are goes by the orders on that channel alone. Assumes nothing.
+use mathlib.Core.Path.{_≡_, refl, sym, ap, ap₂, subst, _∙_}
 use mathlib.Core.Logic.{_≢_}
 use mathlib.Core.Bool.{true, false, _&&_}
 use mathlib.Core.List.{List, [], _∷_, _++_}
@@ -9,7 +9,8 @@ use borrow.Author.Tests.{eqb-true, eqb-false}
 use lib.Dec.{T as Holds, eqb}
 use lib.ListN.{length, set, length-set, getD-replicate, length-replicate}
 use lib.Seq.{getD-set-same, getD-set-other, set-getD}
-use Rattle.rows.proofs.Choice.{by-test, either, and-left}
+use Rattle.rows.specs.Choice.{IF_THEN_ELSE_}
+use Rattle.rows.proofs.Choice.{by-test, by-yes, by-no, either, and-left}
 use Rattle.frames.specs.Frame.{Frame}
 use Rattle.state.specs.declared.State.{State}
 use Rattle.state.specs.Valid.{resetOf}
@@ -17,7 +18,7 @@ use Rattle.detector.specs.Run.{answerTo, stateFrom}
 use Rattle.detector.proofs.Run.{as-given}
 use Rattle.card.specs.declared.Called.{Called}
 use Rattle.card.specs.Card.{Order, call, reset, channelOf, inBank, stateAt, calledOf, numberOnly, nextFor, saidFor, answerOf, bankAfter}
-use Rattle.card.specs.History.{allReset, bankFrom, heardFrom, heard}
+use Rattle.card.specs.History.{allReset, bankFrom, heardFrom, heard, ordersOn}
 use Rattle.card.proofs.Orders.{answer-in, bank-in, bank-out}
 use Rattle.card.proofs.Shared.{inside}
 
@@ -101,10 +102,71 @@ module _ (i : ℕ) where
       on-all os (bankAfter bank (reset j)) _ (ap (λ (n : ℕ). inBank n i) (size bank (reset j)) ∙ t)
       (by-test (On (bankAfter bank (reset j))) (eqb j i) _ _ (λ e. on-reset bank j t (eqb-true j i e)) (λ e. on-other bank fs (reset j) h (eqb-false j i e)))
 
+-- ---- two banks of one size with one state on channel i: orders there do the same to both, and others nothing
+module _ (i : ℕ) where
+  record Like (a b : List State) : Type 0 where
+    long : length a ≡ length b
+    same : stateAt a i ≡ stateAt b i
+
+  like-answer : (a b : List State) (f : Frame) → Like a b → answerOf a (call i f) ≡ answerOf b (call i f)
+  unfolding answerOf channelOf
+  like-answer a b f k = ap₂ (λ (n : ℕ) (s : State). IF inBank n i THEN saidFor (call i f) s ELSE numberOnly 9) (k .long) (k .same)
+
+  -- the state there, by the test of the bank
+  state-by : (bank : List State) (o : Order) → channelOf o ≡ i → stateAt (bankAfter bank o) i ≡ (IF inBank (length bank) i THEN nextFor o (stateAt bank i) ELSE stateAt bank i)
+  state-by bank o e =
+      either (stateAt (bankAfter bank o) i ≡ (IF inBank (length bank) i THEN nextFor o (stateAt bank i) ELSE stateAt bank i)) (inBank (length bank) i)
+      (λ t.
+      subst (λ (j : ℕ). stateAt (bankAfter bank o) j ≡ nextFor o (stateAt bank j)) e (stepped bank o (subst (λ (j : ℕ). inBank (length bank) j ≡ true) (sym e) t))
+      ∙ sym (by-yes _ _ t))
+      (λ t. ap (λ (b : List State). stateAt b i) (bank-out bank o (subst (λ (j : ℕ). inBank (length bank) j ≡ false) (sym e) t)) ∙ sym (by-no _ _ t))
+
+  like-next : (a b : List State) (o : Order) → channelOf o ≡ i → Like a b → Like (bankAfter a o) (bankAfter b o)
+  like-next a b o e k =
+      record {
+        long = size a o ∙ (k .long ∙ sym (size b o));
+        same = state-by a o e ∙ (ap₂ (λ (n : ℕ) (s : State). IF inBank n i THEN nextFor o s ELSE s) (k .long) (k .same) ∙ sym (state-by b o e));
+      }
+
+  like-other : (a b : List State) (o : Order) → (channelOf o ≡ i → ⊥) → Like a b → Like (bankAfter a o) b
+  like-other a b o n k = record { long = size a o ∙ k .long; same = others a o i (λ e. n (sym e)) ∙ k .same }
+
+  own-from : (os : List Order) (a b : List State) (fs : List Frame) → Like a b → heardFrom a i fs os ≡ heardFrom b i fs (ordersOn i os)
+  unfolding heardFrom ordersOn channelOf
+  own-from [] a b fs k = refl
+  own-from (call j f ∷ os) a b fs k =
+      let o = call j f in
+      either (heardFrom a i fs (o ∷ os) ≡ heardFrom b i fs (ordersOn i (o ∷ os))) (eqb j i)
+      (λ e.
+      let c = eqb-true j i e in
+      let r = subst (λ (n : ℕ). answerOf a (call n f) ≡ answerOf b (call n f)) (sym c) (like-answer a b f k) in
+      own-from os (bankAfter a o) (bankAfter b o) _ (like-next a b o c k)
+      ∙ (ap (λ (x : Called). heardFrom (bankAfter b o) i (IF eqb j i && eqb (x .refusal) 0 THEN fs ++ (f ∷ []) ELSE fs) (ordersOn i os)) r
+      ∙ ap (heardFrom b i fs) (sym (by-yes (o ∷ ordersOn i os) (ordersOn i os) e))))
+      (λ e.
+      let n : (eqb j i && eqb (answerOf a o .refusal) 0) ≡ false = rw e in
+      ap (λ (gs : List Frame). heardFrom (bankAfter a o) i gs os) (by-no _ _ n)
+      ∙ (own-from os (bankAfter a o) b fs (like-other a b o (eqb-false j i e) k)
+      ∙ ap (heardFrom b i fs) (sym (by-no (o ∷ ordersOn i os) (ordersOn i os) e))))
+  own-from (reset j ∷ os) a b fs k =
+      let o = reset j in
+      either (heardFrom a i fs (o ∷ os) ≡ heardFrom b i fs (ordersOn i (o ∷ os))) (eqb j i)
+      (λ e.
+      own-from os (bankAfter a o) (bankAfter b o) _ (like-next a b o (eqb-true j i e) k)
+      ∙ ap (heardFrom b i fs) (sym (by-yes (o ∷ ordersOn i os) (ordersOn i os) e)))
+      (λ e.
+      ap (λ (gs : List Frame). heardFrom (bankAfter a o) i gs os) (by-no _ _ e)
+      ∙ (own-from os (bankAfter a o) b fs (like-other a b o (eqb-false j i e) k)
+      ∙ ap (heardFrom b i fs) (sym (by-no (o ∷ ordersOn i os) (ordersOn i os) e))))
+
 -- ---- a channel that is as after a reset; in a bank that was all reset each of them is
 pub heard-state : (bank : List State) (i : ℕ) (os : List Order) → inBank (length bank) i ≡ true → stateAt bank i ≡ resetOf → stateAt (bankFrom bank os) i ≡ stateFrom resetOf (heard bank i os)
 unfolding heard stateFrom
 heard-state bank i os t h = on-all i os bank [] t h
+
+pub own : (bank : List State) (i : ℕ) (os : List Order) → heard bank i os ≡ heard bank i (ordersOn i os)
+unfolding heard
+own bank i os = own-from i os bank bank [] (record { long = refl; same = refl })
 
 pub reset-size : (n : ℕ) → length (allReset n) ≡ n
 unfolding allReset

@@ -9,6 +9,7 @@ use Rattle.frames.specs.Frame.{Frame}
 use Rattle.state.specs.declared.State.{State}
 use Rattle.state.specs.Valid.{resetOf}
 use Rattle.card.specs.Card.{Order, call, reset, channelOf, inBank, stateAt, numberOnly, nextFor, saidFor, answerOf, bankAfter, steppedOf}
+-- looked at first: a definition that is wrong is refused by an instance that comes out otherwise
 use Rattle.card.specs.Instances.{ends}
 
 module _ (bank : List State) (o : Order) where

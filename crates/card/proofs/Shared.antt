@@ -26,6 +26,7 @@ use denote.Triple.Clauses.{ensured, lasts}
 use denote.Triple.Spec.{tripleOf}
 use Rattle.state.proofs.State.Laws as T′
 use Rattle.card.specs.Card.{inBank}
+-- looked at first: a definition that is wrong is refused by an instance that comes out otherwise
 use Rattle.card.specs.Instances.{ends}
 use Rattle.card.proofs.in_bank as in-bank
 

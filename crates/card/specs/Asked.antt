@@ -10,11 +10,11 @@ use Rattle.state.specs.declared.State.{State}
 use Rattle.state.specs.Valid.{resetOf}
 use Rattle.detector.specs.Run.{answerTo, stateFrom}
 use Rattle.card.specs.Card.{Order, call, reset, channelOf, inBank, stateAt, calledOf, numberOnly, answerOf, bankAfter}
-use Rattle.card.specs.History.{allReset, bankFrom, heard}
+use Rattle.card.specs.History.{allReset, bankFrom, heard, ordersOn}
 
 -- of one order, on any bank
 pub record OneOrder (bank : List State) (o : Order) : Type 0 where
-  -- 9 is given exactly if the bank has another size, or the channel is not in it
+  -- 9 is given exactly if the bank has another size than 1 to 64, or the channel is not in it
   pub nine : inBank (length bank) (channelOf o) ≡ false → answerOf bank o ≡ numberOnly 9
   pub nine-only : answerOf bank o .refusal ≡ 9 → inBank (length bank) (channelOf o) ≡ false
   -- a refusal of any number has flags 0 and energies 0, and leaves every state as it was
@@ -47,6 +47,8 @@ pub record Asked : Type 0 where
   -- that channel has heard
   pub alone : (bank : List State) (i : ℕ) (os : List Order) (f : Frame) → inBank (length bank) i ≡ true → stateAt bank i ≡ resetOf
       → answerOf (bankFrom bank os) (call i f) ≡ calledOf (answerTo (stateFrom resetOf (heard bank i os)) f)
+  -- what a channel has heard goes by the orders on that channel alone: without those on the others it has heard the same
+  pub own : (bank : List State) (i : ℕ) (os : List Order) → heard bank i os ≡ heard bank i (ordersOn i os)
   -- so in a bank of n channels that was all reset an answer depends on what the channel has heard, its present frame, the bank's size and the channel's
   -- number, and on nothing else
   pub only : (n i : ℕ) (os os′ : List Order) (f : Frame) → heard (allReset n) i os ≡ heard (allReset n) i os′

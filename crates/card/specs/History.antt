@@ -9,7 +9,7 @@ use Rattle.rows.specs.Choice.{IF_THEN_ELSE_}
 use Rattle.frames.specs.Frame.{Frame}
 use Rattle.state.specs.declared.State.{State}
 use Rattle.state.specs.Valid.{resetOf}
-use Rattle.card.specs.Card.{Order, call, reset, answerOf, bankAfter}
+use Rattle.card.specs.Card.{Order, call, reset, channelOf, answerOf, bankAfter}
 
 -- n channels, all reset
 unfoldable pub allReset : ℕ → List State
@@ -29,3 +29,8 @@ heardFrom bank i fs (reset j ∷ os) = heardFrom (bankAfter bank (reset j)) i (I
 -- what channel i has heard in all of them
 unfoldable pub heard : List State → ℕ → List Order → List Frame
 heard bank i os = heardFrom bank i [] os
+
+-- the orders on channel i alone
+unfoldable pub ordersOn : ℕ → List Order → List Order
+ordersOn i [] = []
+ordersOn i (o ∷ os) = IF eqb (channelOf o) i THEN o ∷ ordersOn i os ELSE ordersOn i os

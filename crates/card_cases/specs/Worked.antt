@@ -29,8 +29,8 @@ use Rattle.detector.specs.Worked.{loud, quiet, bad}
 use Rattle.card.specs.Card.{Order, call, reset, channelOf, inBank, stateAt, calledOf, numberOnly, nextFor, saidFor, answerOf, bankAfter}
 use Rattle.card.specs.History.{allReset, bankFrom, heardFrom, heard}
 
--- channel 0 hears three loud frames in both; what the others hear differs, and so do a call that is refused, one before a reset, and one on a channel that
--- is not there
+-- channel 0 hears three loud frames in both; what the others hear differs, and the second has besides a call that is refused, one before a reset, and
+-- one on a channel that is not there
 abbrev pub one-history : List Order
 one-history = call 0 loud ∷ call 1 quiet ∷ call 0 loud ∷ call 2 loud ∷ call 0 loud ∷ []
 

@@ -1,4 +1,4 @@
--- A line of a card's trace and its order. Two digits name a channel. After them stand the 81 digits of a frame and a line feed, which is a call, of the
+-- A line of a card's trace and its order. Two upper-case hexadecimal digits name a channel. After them stand the 81 digits of a frame and a line feed, which is a call, of the
 -- uplink; or a line feed alone, which is a reset. A line of any other form is malformed. Characters are their ASCII codes: 10 is a line feed.
 -- Assumes nothing.
 use mathlib.Core.Bool.{Bool, _&&_, _||_}

@@ -177,7 +177,7 @@ fn answer(s: State, n: Named) -> Said
 
 // ---- a run in pieces
 
-// Answers the lines of an input; the answers are written from `at` on. A line that names no channel leaves that of channel 0 as it is.
+// Answers the lines of an input; the answers are written from `at` on. Where a line names no channel, the state of channel 0 is taken out, and stored as it was.
 fn run(bank: [State; CHANNELS], input: &[u8], out: &mut [u8], at: usize) -> Ran
     requires { ⌜ at + answerBytes * length (linesOf (now input)) ≤ length (now out) ⌝ }
     ensures { λ r. ⌜ r ≡ piece.ranOf bank (now (input .entry)) at ⌝ }

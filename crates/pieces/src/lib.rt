@@ -12,7 +12,7 @@ use rows::lesser;
 // The first bytes of a line that are kept: one more than the longest line of any form has, so that a longer one is known.
 const KEPT: usize = 85;
 
-// The bytes before the line feed of a line as most are: none of the longer ones has it before.
+// The bytes before the line feed of a line as most are: a longer line has none among them either.
 const USUAL: usize = 81;
 
 // An unfinished line: its first bytes, and how many they are.

@@ -31,7 +31,7 @@ pub said-ok : (s : State) (l : List ℕ) → decodedOf l .refusal ≡ 0 → said
 unfolding saidOf IF_THEN_ELSE_
 said-ok s l h = rw (eq-eqb (decodedOf l .refusal) 0 h)
 
--- its number is a digit, and its text has four bytes
+-- its number is a digit, so that its text has no `?`; and its text has four bytes
 pub said-small : (s : State) (l : List ℕ) → saidOf s l .reply .refusal < 10
 unfolding saidOf steppedOf deniedOf
 said-small s l =

@@ -1,4 +1,4 @@
--- `card::call` meets its contract: a walk of its MIR, by hand. The count is read and tested by `in_bank`. Where the test holds, the borrow of the bank is
+-- `card::call` meets its contract: a walk of its compiled form (MIR), by hand. The count is read and tested by `in_bank`. Where the test holds, the borrow of the bank is
 -- opened, the channel's state is taken out of the row and read, `step` is called while the borrow stays open, and the state that it returns is stored
 -- and put in the row, where the borrow is closed. Where it does not, `refused` is called, and the bank is as it was. All that the proof knows of the
 -- three is that each meets its contract. Nothing here goes by the fields of `State` or of `Called`. Assumes nothing.

@@ -1,4 +1,4 @@
--- `card::reset` meets its contract: a walk of its MIR, by hand. The count is read and tested by `in_bank`. Where the test holds, the state after a reset is
+-- `card::reset` meets its contract: a walk of its compiled form (MIR), by hand. The count is read and tested by `in_bank`. Where the test holds, the state after a reset is
 -- made, the borrow of the bank is opened, the state is stored at the channel's place, and the borrow is closed. Where it does not, the bank is as it was.
 -- Nothing here goes by the fields of `State`. Assumes nothing.
 use mathlib.Core.Path.{_≡_, refl, sym, _∙_, ap, subst}
