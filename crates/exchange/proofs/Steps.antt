@@ -19,17 +19,17 @@ use Rattle.state.specs.declared.State.{State}
 use Rattle.state.specs.Valid.{resetOf}
 use Rattle.detector.specs.Run.{answerTo}
 use Rattle.pieces.specs.Lines.{plainOf, short}
-use Rattle.runner.specs.Said.{textOf}
+use Rattle.runner.specs.declared.Said.{Said}
+use Rattle.runner.specs.Said.{steppedOf, deniedOf, textOf}
 use Rattle.runner.proofs.Steps.{text-four}
 use Rattle.card.specs.Card.{Order, call, reset, channelOf, inBank, calledOf, numberOnly, answerOf, bankAfter}
 use Rattle.card.specs.Card as card
 use Rattle.card.proofs.Orders.{answer-out, bank-out, call-answer, call-bank, reset-answer, reset-bank}
 use Rattle.card.proofs.Shared.{inside}
 use Rattle.exchange.specs.declared.Named.{Named}
-use Rattle.exchange.specs.declared.Said.{Said}
 use Rattle.exchange.specs.Line.{channelIn, callsOf, orderly, frameAt, orderIn}
 use Rattle.exchange.specs.Run.{channels, repliedOf, malformed, replyOf, nextOf, writeOf}
-use Rattle.exchange.specs.Named.{noneOf, foundOf, namedOf, keptOf, steppedOf, saidOf}
+use Rattle.exchange.specs.Named.{noneOf, foundOf, namedOf, saidOf}
 use Rattle.exchange.proofs.Form.{cut-malformed, by-short}
 
 -- ---- a malformed line
@@ -107,12 +107,12 @@ unfolding malformed repliedOf numberOnly
 malformed-is bank l t = malformed-reply bank l t
 
 -- ---- a line that names no channel of the bank leaves every state as it was
-none-said : (k : ℕ) (s : State) → (k ≡ 0 → ⊥) → saidOf s (noneOf k) ≡ keptOf k s
+none-said : (k : ℕ) (s : State) → (k ≡ 0 → ⊥) → saidOf s (noneOf k) ≡ deniedOf k s
 unfolding saidOf noneOf IF_THEN_ELSE_
 none-said k s h = rw (ne-eqb k 0 h)
 
 none-steps : (bank : List State) (l : List ℕ) (k : ℕ) → (k ≡ 0 → ⊥) → replyOf bank l ≡ repliedOf (numberOnly k) → nextOf bank l ≡ bank → Steps bank l (noneOf k)
-unfolding noneOf keptOf repliedOf numberOnly
+unfolding noneOf deniedOf repliedOf numberOnly
 none-steps bank l k h r b =
     let e = none-said k (getD bank 0 resetOf) h in
     record { reply = ap (λ (x : Said). x .reply) e ∙ sym r; next = ap (λ (x : Said). set bank 0 (x .next)) e ∙ (set-getD bank 0 resetOf ∙ sym b) }
@@ -146,7 +146,7 @@ module _ (bank : List State) (l : List ℕ) (size : length bank ≡ channels) wh
       }
 
   reset-steps : (d : Decoded) → orderly l ≡ true → inBank channels c ≡ true → callsOf l ≡ false → Steps bank l (named true d)
-  unfolding saidOf keptOf IF_THEN_ELSE_ repliedOf numberOnly
+  unfolding saidOf deniedOf IF_THEN_ELSE_ repliedOf numberOnly
   reset-steps d t u v =
       let o = order-reset l v in
       let h = in-bank true u in

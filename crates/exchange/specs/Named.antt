@@ -1,5 +1,6 @@
 -- What is read of a line before its channel's state is taken out of the bank, and what is made of that state: the two steps of a line, as the code has
--- them. `line-steps` in `proofs/Steps.antt` shows that together they are `replyOf` and `nextOf` of Run.antt. Assumes nothing.
+-- them. `line-steps` in `proofs/Steps.antt` shows that together they are `replyOf` and `nextOf` of Run.antt. No public promise
+-- names them. Assumes nothing.
 use mathlib.Core.Bool.{Bool, false, not}
 use mathlib.Core.List.{List}
 use Prim.Native.Nat.{ℕ}
@@ -11,11 +12,11 @@ use Rattle.lines.specs.declared.Decoded.{Decoded}
 use Rattle.lines.specs.Answers.{parsedOf}
 use Rattle.state.specs.declared.State.{State}
 use Rattle.state.specs.Valid.{resetOf}
-use Rattle.detector.specs.declared.Answer.{Answer}
 use Rattle.detector.specs.Step.{stepOf}
+use Rattle.runner.specs.declared.Said.{Said}
+use Rattle.runner.specs.Said.{steppedOf, deniedOf}
 use Rattle.card.specs.Card.{inBank}
 use Rattle.exchange.specs.declared.Named.{Named}
-use Rattle.exchange.specs.declared.Said.{Said}
 use Rattle.exchange.specs.Line.{channelIn, callsOf, orderly}
 use Rattle.exchange.specs.Run.{channels}
 
@@ -34,13 +35,7 @@ unfoldable pub namedOf : List ℕ → Named
 namedOf l = IF orderly l THEN foundOf (channelIn l) (not (callsOf l)) (parsedOf (drop 2 l)) ELSE noneOf 6
 
 -- what is answered, and the state afterwards
-unfoldable pub keptOf : ℕ → State → Said
-keptOf n s = record { reply = record { refusal = n; vad = false; vvad = false }; next = s }
-
-unfoldable pub steppedOf : Answer → Said
-steppedOf r = record { reply = record { refusal = r .refusal; vad = r .vad; vvad = r .vvad }; next = r .next }
-
 unfoldable pub saidOf : State → Named → Said
 saidOf s n =
-    IF eqb (n .refusal) 0 THEN IF n .resets THEN keptOf 0 resetOf ELSE steppedOf (stepOf (n .acf) (n .lags) (n .scale) s)
-    ELSE keptOf (n .refusal) s
+    IF eqb (n .refusal) 0 THEN IF n .resets THEN deniedOf 0 resetOf ELSE steppedOf (stepOf (n .acf) (n .lags) (n .scale) s)
+    ELSE deniedOf (n .refusal) s

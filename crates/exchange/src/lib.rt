@@ -4,7 +4,7 @@ ghost use Prim.Native.Nat.{_+_, _*_, _≤_};
 ghost use lib.ListN.{length};
 ghost use Rattle.pieces.specs.Lines.{linesOf};
 ghost use Rattle.pieces.specs.Put.{putOf};
-ghost use Rattle.runner.specs.Said.{answerBytes};
+ghost use Rattle.runner.specs.Said.{answerBytes, deniedOf};
 ghost use Rattle.exchange.specs.Line as form;
 ghost use Rattle.exchange.specs.Named as one;
 ghost use Rattle.exchange.specs.Run as run;
@@ -14,6 +14,7 @@ use card::in_bank;
 use counts::Reply;
 use lines::Decoded;
 use pieces::Finder;
+use runner::Said;
 use state::State;
 
 // The bytes of an answer: its three characters and a line feed.
@@ -57,12 +58,6 @@ pub struct Named {
     pub acf: [i32; 9],
     pub lags: [u16; 4],
     pub scale: i16,
-}
-
-// What a line is answered, and the state that its channel has then.
-pub struct Said {
-    pub reply: Reply,
-    pub next: State,
 }
 
 // ---- one line
@@ -138,7 +133,7 @@ fn read(line: &[u8]) -> Named
 
 // A number, and the state that stays or is new.
 fn kept(n: u8, s: State) -> Said
-    ensures { λ r. ⌜ r ≡ one.keptOf n s ⌝ }
+    ensures { λ r. ⌜ r ≡ deniedOf n s ⌝ }
 {
     Said {
         reply: Reply {

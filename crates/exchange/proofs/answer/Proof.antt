@@ -8,7 +8,8 @@ use mir.Val.{SFits}
 use Rattle.numbers.proofs.Read.{zreads}
 use Rattle.rows.specs.Choice.{IF_THEN_ELSE_}
 use Rattle.detector.specs.Step.{stepOf}
-use Rattle.exchange.specs.Named.{keptOf, steppedOf, saidOf}
+use Rattle.runner.specs.Said.{steppedOf, deniedOf}
+use Rattle.exchange.specs.Named.{saidOf}
 use Rattle.exchange.proofs.answer.Statement.{statement}
 use Rattle.exchange.proofs.answer.Tie as tie
 
@@ -31,7 +32,7 @@ zero-is c = omega arith
 returns-2 : tie.Need-returns-2
 unfolding saidOf IF_THEN_ELSE_
 returns-2 c =
-    rw (eq-eqb _ 0 (zero-is (c .before .before .before)), c .before .before .if2 .taken) (c .kept2 .ensures ∙ ap (keptOf 0) (c .before .reset .ensures))
+    rw (eq-eqb _ 0 (zero-is (c .before .before .before)), c .before .before .if2 .taken) (c .kept2 .ensures ∙ ap (deniedOf 0) (c .before .reset .ensures))
 
 slice-aggregate-step : tie.Need-slice-aggregate-step
 slice-aggregate-step c = search needs

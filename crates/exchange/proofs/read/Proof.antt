@@ -1,9 +1,9 @@
 -- `exchange::read` tests the two digits, and what stands after them. Assumes nothing.
 use borrow.Author.Needs.{needs}
 use mathlib.Core.Path.{_≡_, sym, ap, ap₂, _∙_}
-use mathlib.Core.Bool.{true, false}
+use mathlib.Core.Bool.{Bool, true, false}
 use mathlib.Core.List.{List}
-use Prim.Native.Nat.{ℕ, _+_, _*_, _-_, _<_, _≤_}
+use Prim.Native.Nat.{ℕ, _-_, _<_, _≤_}
 use native.Mathlib.Omega.{arith}
 use lib.ListN.{length, drop, getD, length-drop}
 use lib.Seq.{take-all}
@@ -12,7 +12,8 @@ use Rattle.lines.specs.declared.Decoded.{Decoded}
 use Rattle.lines.specs.Hex.{valueOf}
 use Rattle.lines.specs.Answers.{parsedOf}
 use Rattle.lines.proofs.Answers.{parsed-yes, parsed-no}
-use Rattle.exchange.specs.Line.{channelIn, callsOf}
+use Rattle.exchange.specs.declared.Named.{Named}
+use Rattle.exchange.specs.Line.{callsOf}
 use Rattle.exchange.specs.Named.{foundOf}
 use Rattle.exchange.proofs.Form.{brief-malformed, channel-is, named-malformed, named-high, named-low, named-call, named-reset, named-neither}
 use Rattle.exchange.proofs.read.Statement.{statement}
@@ -106,12 +107,9 @@ digit-high c = let e = two c .before .before .value .ensures in omega arith
 digit-low : (c : tie.After-parse) → valueOf (getD (line (two c)) 1 0) < 16
 digit-low c = let e = two c .value2 .ensures in omega arith
 
-channel : (c : tie.After-parse) → 16 * two c .before .before .value .result + two c .value2 .result ≡ channelIn (line (two c))
-channel c =
-    let a = two c .before .before .value .ensures in
-    let b = two c .value2 .ensures in
-    let n = channel-is (line (two c)) (long (two c)) in
-    omega arith
+-- by the channel and by what was parsed
+found-as : {r : Named} {k m : ℕ} {d e : Decoded} (b : Bool) → r ≡ foundOf k b d → k ≡ m → d ≡ e → r ≡ foundOf m b e
+found-as b h x y = h ∙ ap₂ (λ (n : ℕ) (z : Decoded). foundOf n b z) x y
 
 number : (c : tie.After-parse) → c .parse .result .refusal ≡ parsedOf (drop 2 (line (two c))) .refusal
 number c = ap (λ (d : Decoded). d .refusal) (parsed c)
@@ -121,9 +119,11 @@ unfolding callsOf
 returns-4 c =
     let p = c .before .before .before in
     let l = line (two p) in
-    c .found .ensures
-    ∙ (ap₂ (λ (k : ℕ) (d : Decoded). foundOf k false d) (channel p) (parsed p)
-    ∙ sym (named-call l (long (two p)) (digit-high p) (digit-low p) (parsed-yes (drop 2 l) (sym (number p) ∙ c .before .if4 .taken))))
+    let a = two p .before .before .value .ensures in
+    let v = two p .value2 .ensures in
+    let n = channel-is l (long (two p)) in
+    found-as false (c .found .ensures) (omega arith) (parsed p)
+    ∙ sym (named-call l (long (two p)) (digit-high p) (digit-low p) (parsed-yes (drop 2 l) (sym (number p) ∙ c .before .if4 .taken)))
 
 bare-requires : tie.Need-bare-requires
 bare-requires c κs = search needs
@@ -152,9 +152,11 @@ returns-6 c =
     let b = c .before .before in
     let p = b .before .before .before in
     let l = line (two p) in
-    c .found2 .ensures
-    ∙ (ap₂ (λ (k : ℕ) (d : Decoded). foundOf k true d) (channel p) (parsed p)
-    ∙ sym (named-reset l (long (two p)) (digit-high p) (digit-low p) (no-call (b .before)) (sym (b .bare .ensures) ∙ not-false (c .before .if5 .left))))
+    let a = two p .before .before .value .ensures in
+    let v = two p .value2 .ensures in
+    let n = channel-is l (long (two p)) in
+    found-as true (c .found2 .ensures) (omega arith) (parsed p)
+    ∙ sym (named-reset l (long (two p)) (digit-high p) (digit-low p) (no-call (b .before)) (sym (b .bare .ensures) ∙ not-false (c .before .if5 .left)))
 
 pub read-spec : {M : Type 1} → statement M
 read-spec =

@@ -10,10 +10,10 @@ use mir.Val.{Fits}
 use Rattle.state.specs.declared.State.{State}
 use Rattle.state.specs.Valid.{resetOf}
 use Rattle.pieces.proofs.Runs.{Runs, line-in, line-on, runs-start, runs-line, runs-room, runs-state, runs-count, runs-out}
+use Rattle.runner.specs.declared.Said.{Said}
 use Rattle.runner.specs.Said.{textOf}
 use Rattle.runner.proofs.Steps.{text-four}
 use Rattle.exchange.specs.declared.Named.{Named}
-use Rattle.exchange.specs.declared.Said.{Said}
 use Rattle.exchange.specs.declared.Ran.{Ran}
 use Rattle.exchange.specs.Run.{channels, nextOf, writeOf, bankOf, answersOf}
 use Rattle.exchange.specs.Named.{saidOf}
