@@ -106,7 +106,7 @@ def main():
                 foreign |= {x[-1] for x in listed}
         there = set(TOKEN.findall(bare(text)))
         stays = asked(text) if p in texts else set()
-        turn = {}
+        turn = dict(IN_A_FILE.get(os.path.relpath(p, os.path.join(root, "crates")), {}))
         if p.endswith(".antt"):
             mine |= {m[0] for m in TOKEN.finditer(bare(text)) if text[m.start() - 1:m.start()] != "."}
         for n in mine - foreign - stays:

@@ -1,4 +1,6 @@
 // Clause 6.2: the average over four frames, the one of four frames before, and the two histories that they come from.
+#![tactic(auto)]
+
 ghost use Rattle.std.specs.Prelude.{true, ◌≡◌, ◌≤◌};
 ghost use Rattle.rows.specs.Rows.{row, all};
 ghost use Rattle.averages.specs.Averages as clause;
@@ -12,7 +14,7 @@ const LAST_SACF: usize = 18;
 const LAST_SAV0: usize = 27;
 
 // The averages L_av0 and L_av1, and the histories with their pointers after the frame.
-#[derive(Drop)]
+#[derive(Clone, Copy)]
 pub struct Averages {
     pub av0: [i32; 9],
     pub av1: [i32; 9],

@@ -1,4 +1,6 @@
 // A card: a lent bank of 1 to 64 channel states. An order names a channel; its state is taken out of the bank, stepped by value, and stored.
+#![tactic(auto)]
+
 ghost use Rattle.std.specs.Prelude.{◌≡◌};
 ghost use Rattle.card.specs.Card as meaning;
 
@@ -9,7 +11,7 @@ use state::State;
 pub const CHANNELS: usize = 64;
 
 // What an order is answered: refusal number, flags and energies, as of a step. The next state is in the bank.
-#[derive(Drop)]
+#[derive(Clone, Copy)]
 pub struct Called {
     pub refusal: u8,
     pub vad: bool,
@@ -20,7 +22,7 @@ pub struct Called {
 }
 
 // What a call makes of a channel's state, and what it is answered.
-#[derive(Drop)]
+#[derive(Clone, Copy)]
 struct Stepped {
     pub next: State,
     pub called: Called,

@@ -1,4 +1,6 @@
 // The answer to a line, and the counts of answers.
+#![tactic(auto)]
+
 ghost use Rattle.std.specs.Prelude.{◌≡◌, false, [], ◌∷◌};
 ghost use Rattle.counts.specs.Counts.{totals_of, full_of, plus_of, count_of};
 
@@ -6,7 +8,7 @@ ghost use Rattle.counts.specs.Counts.{totals_of, full_of, plus_of, count_of};
 const LIMIT: u64 = 4294967295;
 
 // The answer to a line: its refusal number, vad and vvad.
-#[derive(Drop)]
+#[derive(Clone, Copy)]
 pub struct Reply {
     pub refusal: u8,
     pub vad: bool,
@@ -14,7 +16,7 @@ pub struct Reply {
 }
 
 // The five numbers of a night: accepted frames, those with vvad, those kept only by the hangover, quiet ones, and refused lines.
-#[derive(Drop)]
+#[derive(Clone, Copy)]
 pub struct Totals {
     pub accepted: u32,
     pub speech: u32,
@@ -24,7 +26,7 @@ pub struct Totals {
 }
 
 // Totals, and 0, or 7 where there was a line more than can be counted.
-#[derive(Drop)]
+#[derive(Clone, Copy)]
 pub struct Counted {
     pub refusal: u8,
     pub totals: Totals,

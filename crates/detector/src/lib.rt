@@ -1,4 +1,6 @@
 // The voice activity detector of GSM 06.32, on the uplink and on the downlink: one frame, the state before it, and the answer with the state after it.
+#![tactic(auto)]
+
 ghost use Rattle.std.specs.Prelude.{false, ◌≡◌};
 ghost use Rattle.rows.specs.Choice.{IF◌THEN◌ELSE◌};
 ghost use Rattle.tone.specs.Tone.{flag_of};
@@ -20,7 +22,7 @@ use threshold::{Kept, adapt};
 use tone::tone;
 
 // The answer to a frame; `stat` is what 6.4 finds in it.
-#[derive(Drop)]
+#[derive(Clone, Copy)]
 pub struct Answer {
     pub refusal: u8,
     pub vad: bool,
@@ -32,7 +34,7 @@ pub struct Answer {
 }
 
 // What 6.2 to 6.4 leave behind.
-#[derive(Drop)]
+#[derive(Clone, Copy)]
 struct Middle {
     sacf: [i32; 27],
     ptsacf: usize,

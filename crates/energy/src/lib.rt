@@ -1,4 +1,6 @@
 // Clause 6.1: the energy of a frame, and its energy through the adaptive filter.
+#![tactic(auto)]
+
 ghost use Rattle.std.specs.Prelude.{◌≡◌, pos};
 ghost use Rattle.operations.specs.Operations as op;
 ghost use Rattle.rows.specs.Rows.{row};
@@ -9,7 +11,7 @@ use pairs::Pair;
 use rows::products;
 
 // The energy of the input signal, and of the filtered signal.
-#[derive(Drop)]
+#[derive(Clone, Copy)]
 pub struct Energies {
     pub acf0: Pair,
     pub pvad: Pair,

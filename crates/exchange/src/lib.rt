@@ -24,21 +24,21 @@ const RESET: usize = 3;
 const LINE_FEED: u8 = 10;
 
 // A run between two pieces: the bank and the unfinished line.
-#[derive(Drop)]
+#[derive(Clone, Copy)]
 pub struct Exchange {
     pub bank: [State; CHANNELS],
     pub finder: Finder,
 }
 
 // What some lines leave: the bank, and where the next answer is written.
-#[derive(Drop)]
+#[derive(Clone, Copy)]
 pub struct Ran {
     pub bank: [State; CHANNELS],
     pub wrote: usize,
 }
 
 // What a piece is answered: its refusal number, how many bytes of the output are written, and the exchange for the next piece.
-#[derive(Drop)]
+#[derive(Clone, Copy)]
 pub struct Fed {
     pub refusal: u8,
     pub wrote: usize,
@@ -46,14 +46,14 @@ pub struct Fed {
 }
 
 // What the end of the input gives: the first `wrote` bytes of `text`.
-#[derive(Drop)]
+#[derive(Clone, Copy)]
 pub struct Last {
     pub wrote: usize,
     pub text: [u8; ANSWER],
 }
 
 // What a line names: a channel of the bank, and its reset or the numbers of a frame; or 6, or 9, and channel 0.
-#[derive(Drop)]
+#[derive(Clone, Copy)]
 pub struct Named {
     pub refusal: u8,
     pub resets: bool,

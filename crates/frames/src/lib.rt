@@ -1,4 +1,6 @@
 // A frame by itself: how much is lent, and whether its scale, its numbers and its lags are such as an encoder hands over.
+#![tactic(auto)]
+
 ghost use Rattle.std.specs.Prelude.{◌≡◌};
 ghost use Rattle.frames.specs.Frame.{acf_ok, lags_ok, frame_refusal_of};
 

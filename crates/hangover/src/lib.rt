@@ -1,4 +1,6 @@
 // Clause 6.8: the hangover that keeps the flag up after a burst of speech.
+#![tactic(auto)]
+
 ghost use Rattle.std.specs.Prelude.{◌≡◌};
 ghost use Rattle.hangover.specs.Hangover.{hangover_of, burst_of, run_down_of, started_of};
 
@@ -9,7 +11,7 @@ pub const BURSTCONST: i16 = 3;
 const HANGCONST: i16 = 5;
 
 // The flag of a frame, and the two counts after it.
-#[derive(Drop)]
+#[derive(Clone, Copy)]
 pub struct Hung {
     pub vad: bool,
     pub burstcount: i16,

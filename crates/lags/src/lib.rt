@@ -1,4 +1,6 @@
 // The range of a lag; and clauses 6.5 and 6.9: how often a lag of the frame is near a multiple of the one before it.
+#![tactic(auto)]
+
 ghost use Rattle.std.specs.Prelude.{◌≡◌, pos};
 ghost use Rattle.lags.specs.Lags.{lag_ok, ptch_of, smallag_of, counted_of, once_of, lagcount_of};
 

@@ -1,5 +1,7 @@
 // The detector's interface for C and Rust: a state and an answer as lent runs of numbers of 32 bits, frames of both directions, and trace lines read and
 // written.
+#![tactic(auto)]
+
 ghost use Rattle.std.specs.Prelude.{◌≡◌, true, ◌++◌, ◌+◌, ◌<◌, ◌≤◌, nat_abs, pos, length, take, drop};
 ghost use Rattle.std.specs.Int.{w16};
 ghost use Rattle.std.proofs.Common.{SFits};

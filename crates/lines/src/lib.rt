@@ -1,4 +1,6 @@
 // Trace lines: a frame written as 81 upper-case hexadecimal digits and a line feed, and read back.
+#![tactic(auto)]
+
 ghost use Rattle.std.specs.Prelude.{◌≡◌, ◌+◌, ◌<◌, ◌≤◌, true, ◌++◌, map, length, take, drop, pos};
 ghost use Rattle.std.specs.Int.{w32};
 ghost use Rattle.std.proofs.Common.{to_z, of_z};
@@ -24,7 +26,7 @@ const SCALE_AT: usize = 72;
 const LAGS_AT: usize = 73;
 
 // A line read: its refusal number, and its frame or zeros.
-#[derive(Drop)]
+#[derive(Clone, Copy)]
 pub struct Decoded {
     pub refusal: u8,
     pub scale: i16,
@@ -33,7 +35,7 @@ pub struct Decoded {
 }
 
 // A line read into lent numbers and lags: its refusal number and its scale.
-#[derive(Drop)]
+#[derive(Clone, Copy)]
 pub struct Heading {
     pub refusal: u8,
     pub scale: i16,

@@ -1,4 +1,6 @@
 // Runs a trace with its samples on the downlink, piece by piece: what is unfinished is carried by value.
+#![tactic(auto)]
+
 ghost use Rattle.std.specs.Prelude.{◌≡◌, ◌+◌, ◌*◌, ◌≤◌, ◌<◌, length};
 ghost use Rattle.pieces.specs.Lines.{lines_of};
 ghost use Rattle.pieces.specs.Put.{put_of};
@@ -13,14 +15,14 @@ use state::State;
 const ANSWER: usize = 5;
 
 // A run between two pieces: the detector and the unfinished line.
-#[derive(Drop)]
+#[derive(Clone, Copy)]
 pub struct Listener {
     pub state: State,
     pub finder: Finder,
 }
 
 // What some lines leave: the state, where the samples of the next line begin, and where the next answer is written.
-#[derive(Drop)]
+#[derive(Clone, Copy)]
 pub struct Ran {
     pub state: State,
     pub used: usize,
@@ -28,7 +30,7 @@ pub struct Ran {
 }
 
 // What a piece is answered: its refusal number, how many bytes of the output are written, and the listener for the next piece.
-#[derive(Drop)]
+#[derive(Clone, Copy)]
 pub struct Fed {
     pub refusal: u8,
     pub wrote: usize,
@@ -36,14 +38,14 @@ pub struct Fed {
 }
 
 // What the end of the trace gives: the first `wrote` bytes of `text`.
-#[derive(Drop)]
+#[derive(Clone, Copy)]
 pub struct Last {
     pub wrote: usize,
     pub text: [u8; ANSWER],
 }
 
 // The answer to a line: its refusal number, vad, vvad, and the tone flag that is kept for the next frame.
-#[derive(Drop)]
+#[derive(Clone, Copy)]
 pub struct Reply {
     pub refusal: u8,
     pub vad: bool,
@@ -52,7 +54,7 @@ pub struct Reply {
 }
 
 // What a line is answered, and the state for the next one.
-#[derive(Drop)]
+#[derive(Clone, Copy)]
 pub struct Said {
     pub reply: Reply,
     pub next: State,

@@ -1,4 +1,6 @@
 // The operations of GSM 06.10 on 16 and 32 bits. Each answers for every input, and answers what specs/Operations.antt defines under its name.
+#![tactic(auto)]
+
 ghost use Rattle.std.specs.Prelude.{◌≡◌, ◌^◌, nat_abs, pos, ◌*ℤ◌, ◌<ℤ◌};
 ghost use Rattle.std.specs.Int.Signed.{shr_z};
 ghost use Rattle.std.specs.Int.{w16, w32};

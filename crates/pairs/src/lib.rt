@@ -1,9 +1,11 @@
 // Pseudo-floating numbers of clause 6, and which of two is the greater.
+#![tactic(auto)]
+
 ghost use Rattle.std.specs.Prelude.{◌≡◌};
 ghost use Rattle.pairs.specs.Pairs.{greater_of};
 
 // The pair (e, m) means m times 2^(e - 15).
-#[derive(Drop)]
+#[derive(Clone, Copy)]
 pub struct Pair {
     pub e: i16,
     pub m: i16,

@@ -1,4 +1,6 @@
 // The lines of an input that comes in pieces: what is unfinished is carried by value.
+#![tactic(auto)]
+
 ghost use Rattle.std.specs.Prelude.{◌≡◌, [], ◌++◌, ◌+◌, ◌≤◌, leb, length, take, drop};
 ghost use Rattle.pieces.specs.Lines as text;
 ghost use Rattle.pieces.specs.Cut as piece;
@@ -13,14 +15,14 @@ const KEPT: usize = 85;
 const USUAL: usize = 81;
 
 // An unfinished line: its first bytes, and how many they are.
-#[derive(Drop)]
+#[derive(Clone, Copy)]
 pub struct Finder {
     pub line: [u8; KEPT],
     pub fill: usize,
 }
 
 // A piece in three: the first `n` bytes of `head` are the line that was carried and ends here, in `from..to` lie whole lines, and the rest is carried.
-#[derive(Drop)]
+#[derive(Clone, Copy)]
 pub struct Parts {
     pub head: [u8; KEPT],
     pub n: usize,

@@ -1,4 +1,6 @@
 // Clause 6.3: from the averaged autocorrelations of four frames before to the filter that whitens them.
+#![tactic(auto)]
+
 ghost use Rattle.std.specs.Prelude.{◌++◌, ◌≡◌, ◌-◌, ◌<◌, ◌≤◌, min, pos};
 ghost use Rattle.operations.specs.Operations as op;
 ghost use Rattle.rows.specs.Rows.{row};
@@ -10,7 +12,7 @@ use operations::{abs, add, div, l_add, l_mult, l_shl, l_shr, mult_r, norm, sub, 
 use rows::{lagged, lesser};
 
 // The autocorrelation of the predictor, and its scaling.
-#[derive(Drop)]
+#[derive(Clone, Copy)]
 pub struct Filter {
     pub rav1: [i16; 9],
     pub normrav1: i16,

@@ -1,5 +1,7 @@
 // Rows of numbers: the test of a range, lent rows by value, and the running sums of products that three clauses use. A sum of which no step before
 // the last can clip is made as an exact one; any other is clipped at each step.
+#![tactic(auto)]
+
 ghost use Rattle.std.specs.Prelude.{◌≡◌, true, ℕ, ◌^◌, ◌<◌, ◌≤◌, min, nat_abs, pos, length, get_or};
 ghost use Rattle.numbers.specs.Sum.{at};
 ghost use Rattle.rows.specs.Choice.{within};

@@ -1,4 +1,5 @@
 // Runs a card's trace, on a bank of 64 channels that are all reset: from standard input, or from the file that is named as the one argument, to the answers on standard output, four bytes a line.
+use files::Source;
 use exchange::Exchange;
 
 // What a turn leaves: whether the input goes on, whether all answers could be written, and the run so far.
@@ -10,13 +11,13 @@ struct Turned {
 }
 
 // Reads once, feeds what came, and writes the answers.
-fn turn(fd: i32, name: &[u8], r: Exchange, piece: &mut [u8], out: &mut [u8]) -> Turned {
-    let got = files::read(fd, name, piece);
+fn turn(rt: HostRuntime, source: &mut Source, name: &[u8], r: Exchange, piece: &mut [u8], out: &mut [u8]) -> Turned {
+    let got = files::read(rt, source, name, piece);
     let n = got.n;
     let fed = exchange::feed(r, &piece[..n], out);
     let wrote = fed.wrote;
     let next = fed.exchange;
-    let written = files::write(&out[..wrote]);
+    let written = files::write(rt, &out[..wrote]);
     Turned {
         more: got.more & written,
         written,
@@ -25,7 +26,7 @@ fn turn(fd: i32, name: &[u8], r: Exchange, piece: &mut [u8], out: &mut [u8]) -> 
 }
 
 // Runs the whole input. A proved loop has to end, and nothing says that the input does: the turns are counted down from a number that no run uses up.
-fn run(fd: i32, name: &[u8]) {
+fn run(rt: HostRuntime, source: &mut Source, name: &[u8]) {
     let mut piece = [0u8; 65536];
     let mut out = [0u8; 262144];
     let mut r = exchange::start();
@@ -33,7 +34,7 @@ fn run(fd: i32, name: &[u8]) {
     let mut more = true;
     let mut written = true;
     while turns > 0 && more {
-        let t = turn(fd, name, r, &mut piece, &mut out);
+        let t = turn(rt, source, name, r, &mut piece, &mut out);
         r = t.run;
         more = t.more;
         written = t.written;
@@ -45,16 +46,15 @@ fn run(fd: i32, name: &[u8]) {
     let last = exchange::finish(r);
     let text = last.text;
     let wrote = last.wrote;
-    files::write(&text[..wrote]);
+    files::write(rt, &text[..wrote]);
 }
 
-fn main() {
-    let input = files::open(b"run_card: one file at most\n");
-    if !input.open {
-        return;
-    }
+fn main(rt: HostRuntime) {
+    let input = files::open(rt, b"run_card: one file at most\n");
     let name = input.name;
     let length = input.length;
-    run(input.fd, &name[..length]);
-    files::close(input.fd);
+    if let Some(mut source) = input.source {
+        run(rt, &mut source, &name[..length]);
+        files::close(source);
+    }
 }

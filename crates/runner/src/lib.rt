@@ -1,4 +1,6 @@
 // Runs a trace piece by piece: what is unfinished is carried by value.
+#![tactic(auto)]
+
 ghost use Rattle.std.specs.Prelude.{◌≡◌, ◌+◌, ◌*◌, ◌≤◌, length};
 ghost use Rattle.pieces.specs.Lines.{lines_of};
 ghost use Rattle.pieces.specs.Put.{put_of};
@@ -14,21 +16,21 @@ use state::State;
 const ANSWER: usize = 4;
 
 // A run between two pieces: the detector and the unfinished line.
-#[derive(Drop)]
+#[derive(Clone, Copy)]
 pub struct Runner {
     pub state: State,
     pub finder: Finder,
 }
 
 // What some lines leave: the state, and where the next answer is written.
-#[derive(Drop)]
+#[derive(Clone, Copy)]
 pub struct Ran {
     pub state: State,
     pub wrote: usize,
 }
 
 // What a piece is answered: its refusal number, how many bytes of the output are written, and the runner for the next piece.
-#[derive(Drop)]
+#[derive(Clone, Copy)]
 pub struct Fed {
     pub refusal: u8,
     pub wrote: usize,
@@ -36,14 +38,14 @@ pub struct Fed {
 }
 
 // What the end of the input gives: the first `wrote` bytes of `text`.
-#[derive(Drop)]
+#[derive(Clone, Copy)]
 pub struct Last {
     pub wrote: usize,
     pub text: [u8; ANSWER],
 }
 
 // What a line is answered, and the state for the next one.
-#[derive(Drop)]
+#[derive(Clone, Copy)]
 pub struct Said {
     pub reply: Reply,
     pub next: State,

@@ -1,4 +1,6 @@
 // The samples of a frame as bytes: numbers of 16 bits, two bytes each, the low byte first.
+#![tactic(auto)]
+
 ghost use Rattle.std.specs.Prelude.{◌≡◌, length};
 ghost use Rattle.samples.specs.Samples as meaning;
 ghost use Rattle.samples.specs.Beside as beside;
@@ -11,7 +13,7 @@ pub const FRAME_SAMPLES: usize = 160;
 pub const FRAME_BYTES: usize = 320;
 
 // What is read of a frame: how many samples are there, and the samples, with zeros after the last.
-#[derive(Drop)]
+#[derive(Clone, Copy)]
 pub struct Samples {
     pub count: usize,
     pub sof: [i16; FRAME_SAMPLES],

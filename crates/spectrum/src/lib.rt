@@ -1,4 +1,6 @@
 // Clause 6.4: how far the spectrum has moved since the frame before.
+#![tactic(auto)]
+
 ghost use Rattle.std.specs.Prelude.{◌≡◌};
 ghost use Rattle.rows.specs.Rows.{row};
 ghost use Rattle.spectrum.specs.Spectrum as clause;
@@ -7,7 +9,7 @@ use operations::{div, l_abs, l_add, l_shl, l_shr, l_sub, norm, shl, sub, topped}
 use rows::products;
 
 // The distance measure L_dm, and whether it stayed.
-#[derive(Drop)]
+#[derive(Clone, Copy)]
 pub struct Compared {
     pub dm: i32,
     pub stat: bool,

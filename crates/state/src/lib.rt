@@ -1,4 +1,6 @@
 // What the detector keeps from frame to frame: the state, when it is valid, and the state after a reset.
+#![tactic(auto)]
+
 ghost use Rattle.std.specs.Prelude.{◌≡◌};
 ghost use Rattle.state.specs.Valid as valid;
 
@@ -13,7 +15,7 @@ const LAST_SACF: usize = 18;
 const LAST_SAV0: usize = 27;
 
 // What is kept from frame to frame. A valid state's ranges are those of specs/Valid.antt.
-#[derive(Drop)]
+#[derive(Clone, Copy)]
 pub struct State {
     pub rvad: [i16; 9],
     pub normrvad: i16,

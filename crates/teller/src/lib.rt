@@ -1,4 +1,6 @@
 // Tells, line by line, why each frame of a trace was sent or not: the lines of a trace that comes in pieces, each answered in words.
+#![tactic(auto)]
+
 ghost use Rattle.std.specs.Prelude.{◌≡◌, ◌+◌, ◌*◌, ◌≤◌, length, drop};
 ghost use Rattle.pieces.specs.Lines.{lines_of};
 ghost use Rattle.pieces.specs.Put.{put_of};
@@ -19,28 +21,28 @@ const MOST: usize = 41;
 const CUT: usize = 10;
 
 // A run, and whether it is one on the downlink.
-#[derive(Drop)]
+#[derive(Clone, Copy)]
 pub struct Hearing {
     pub downlink: bool,
     pub explainer: Explainer,
 }
 
 // A trace so far: the run, and the unfinished line.
-#[derive(Drop)]
+#[derive(Clone, Copy)]
 pub struct Teller {
     pub hearing: Hearing,
     pub finder: Finder,
 }
 
 // Why a line's frame was sent or not, and the run after it.
-#[derive(Drop)]
+#[derive(Clone, Copy)]
 pub struct Told {
     pub why: Why,
     pub next: Hearing,
 }
 
 // What some lines leave: the run, how many bytes of the samples they took, and where the next text is written.
-#[derive(Drop)]
+#[derive(Clone, Copy)]
 pub struct Ran {
     pub hearing: Hearing,
     pub used: usize,
@@ -48,7 +50,7 @@ pub struct Ran {
 }
 
 // What a piece is answered: its refusal number, how many bytes of the output are written, and the trace so far.
-#[derive(Drop)]
+#[derive(Clone, Copy)]
 pub struct Fed {
     pub refusal: u8,
     pub wrote: usize,
@@ -56,14 +58,14 @@ pub struct Fed {
 }
 
 // What the end of the input gives: the first `wrote` bytes of `text`.
-#[derive(Drop)]
+#[derive(Clone, Copy)]
 pub struct Last {
     pub wrote: usize,
     pub text: [u8; CUT],
 }
 
 // A number in decimal: its digits are those of `text` from `from` on.
-#[derive(Drop)]
+#[derive(Clone, Copy)]
 struct Written {
     text: [u8; 10],
     from: usize,

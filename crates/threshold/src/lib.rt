@@ -1,4 +1,6 @@
 // Clause 6.6: the threshold, and the filter that is learned with it.
+#![tactic(auto)]
+
 ghost use Rattle.std.specs.Prelude.{◌≡◌};
 ghost use Rattle.threshold.specs.Threshold as clause;
 ghost use Rattle.threshold.specs.Ways.{way_taken};
@@ -19,7 +21,7 @@ const E_PLEV: i16 = 20;
 const M_PLEV: i16 = 25000;
 
 // What the clause keeps from frame to frame.
-#[derive(Drop)]
+#[derive(Clone, Copy)]
 pub struct Kept {
     pub thvad: Pair,
     pub adaptcount: i16,
@@ -28,7 +30,7 @@ pub struct Kept {
 }
 
 // The ways through the clause: out at the level, at ptch, at a spectrum that moves, at a tone, with the count up to 8, or through to the end.
-#[derive(Drop)]
+#[derive(Clone, Copy)]
 pub enum Way {
     Floor,
     Periodic,

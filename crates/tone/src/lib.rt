@@ -1,4 +1,6 @@
 // Clause 6.10: whether the samples of a frame are a tone.
+#![tactic(auto)]
+
 ghost use Rattle.std.specs.Prelude.{◌≡◌, ◌≤◌, pos, length, ◌≤ℤ◌};
 ghost use Rattle.std.specs.Int.Signed.{lt_z};
 ghost use Rattle.operations.specs.Operations as op;

@@ -1,4 +1,6 @@
 // A night's totals: the answers to the lines of a trace counted, and the line of the report.
+#![tactic(auto)]
+
 ghost use Rattle.std.specs.Prelude.{◌≡◌};
 ghost use Rattle.pieces.specs.Lines.{lines_of};
 ghost use Rattle.totals.specs.Report as line;
@@ -12,14 +14,14 @@ use state::State;
 pub const REPORT: usize = 41;
 
 // What lines leave: the totals, and the detector.
-#[derive(Drop)]
+#[derive(Clone, Copy)]
 pub struct Tally {
     pub counted: Counted,
     pub state: State,
 }
 
 // A night between two pieces of its trace.
-#[derive(Drop)]
+#[derive(Clone, Copy)]
 pub struct Night {
     pub tally: Tally,
     pub finder: Finder,

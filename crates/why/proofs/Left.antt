@@ -31,9 +31,9 @@ unfolding accepted_of threshold_reason
 accepted_left s f = by_way _ _ _ _ (kept_of s) _ _ _
 
 module _ (s : State) (f : Frame) (ok : (answer_to s f).refusal ≡ 0) where
-  pub left_by : Left s f (answer_to s f)
+  pub left_by_lem : Left s f (answer_to s f)
   unfolding answer_to
-  left_by = subst (Left s f) (sym (step_accepted f.direction f.l_acf f.lags f.scalvad s (accepted_0 f.direction f.l_acf f.lags f.scalvad s ok))) (accepted_left s f)
+  left_by_lem = subst (Left s f) (sym (step_accepted f.direction f.l_acf f.lags f.scalvad s (accepted_0 f.direction f.l_acf f.lags f.scalvad s ok))) (accepted_left s f)
 
   -- a count that is waited for is that of the next state, and one of 1..8
   pub waiting_count : (k : ℤ) → threshold_reason (tone_read f.direction s) s (answer_to s f).acf0 (answer_to s f).stat ≡ Way.Waiting k → ((answer_to s f).next.adaptcount ≡ k) × (pos 1 ≤ℤ k) × (k ≤ℤ pos 8)
@@ -42,5 +42,5 @@ module _ (s : State) (f : Frame) (ok : (answer_to s f).refusal ≡ 0) where
       let v = (accepted (samples_ok f.direction) f.l_acf f.lags f.scalvad s (accepted_0 f.direction f.l_acf f.lags f.scalvad s ok)).state in
       let a = answer_to s f in
       let w = subst WaitingIn e (waiting_in a.acf0 _ a.stat _ s.adaptcount v.adaptcount.from v.adaptcount.to) in
-      let l = left_by ∙ ap (λ (x : Way). left_by x a.pvad (spectral_of f.l_acf f.scalvad s).rav1 (spectral_of f.l_acf f.scalvad s).normrav1 (kept_of s)) e in
+      let l = left_by_lem ∙ ap (λ (x : Way). left_by x a.pvad (spectral_of f.l_acf f.scalvad s).rav1 (spectral_of f.l_acf f.scalvad s).normrav1 (kept_of s)) e in
       (ap (λ (x : Kept). x.adaptcount) l, w.0, w.1)

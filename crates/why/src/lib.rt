@@ -1,4 +1,6 @@
 // Why a frame was sent or not, and why the threshold moved or not: the reasons of each frame of a run from reset.
+#![tactic(auto)]
+
 ghost use Rattle.std.specs.Prelude.{◌≡◌, ◌<◌};
 ghost use Rattle.frames.specs.Frame.{direction_of};
 ghost use Rattle.why.specs.Explain as meaning;
@@ -16,7 +18,7 @@ const LIMIT: u32 = 4294967295;
 
 // Why the flag is what it is: the energy is above the threshold; the hangover holds it up, with the number of the latest frame that completed a
 // burst; or neither.
-#[derive(Drop)]
+#[derive(Clone, Copy)]
 pub enum Flag {
     Energy,
     Hangover(u32),
@@ -24,7 +26,7 @@ pub enum Flag {
 }
 
 // The reasons of an accepted frame, and its number.
-#[derive(Drop)]
+#[derive(Clone, Copy)]
 pub struct Reasons {
     pub number: u32,
     pub flag: Flag,
@@ -32,14 +34,14 @@ pub struct Reasons {
 }
 
 // A refused frame is explained by its number only.
-#[derive(Drop)]
+#[derive(Clone, Copy)]
 pub enum Why {
     Refused(u8),
     Because(Reasons),
 }
 
 // A run so far: the detector, how many frames were accepted, and the number of the latest that completed a burst, 0 where none did.
-#[derive(Drop)]
+#[derive(Clone, Copy)]
 pub struct Explainer {
     pub state: State,
     pub number: u32,
@@ -47,7 +49,7 @@ pub struct Explainer {
 }
 
 // The answer to a frame, its reasons, and the run after it.
-#[derive(Drop)]
+#[derive(Clone, Copy)]
 pub struct Explained {
     pub answer: Answer,
     pub why: Why,

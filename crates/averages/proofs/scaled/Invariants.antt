@@ -1,0 +1,13 @@
+-- `averages::scaled` shifts the nine entries: after i turns, the first i. Assumes nothing.
+use mathlib.Core.Path.{◌≡◌}
+use Prim.Native.Nat.{◌-◌, ◌≤◌}
+use lib.ListN.{length, take}
+use Rattle.rows.specs.Rows.{row}
+use Rattle.averages.specs.Averages.{l_temp_of}
+use Rattle.averages.proofs.scaled.Given as goal
+
+abbrev pub invariant-loop-i : goal.invariant-loop-i
+invariant-loop-i l = (l.i ≤ 9) × (length l.out ≡ 9) × (take l.i l.out ≡ row l.i (l_temp_of l.acf (l.scalvad)))
+
+abbrev pub decreases-loop-i : goal.decreases-loop-i
+decreases-loop-i l = 9 - l.i

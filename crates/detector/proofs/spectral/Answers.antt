@@ -1,0 +1,27 @@
+-- `detector::spectral` runs 6.2, 6.3 and 6.4 one after the other. Assumes nothing.
+use borrow.Author.Rules.{rules}
+use mathlib.Core.Path.{◌≡◌}
+use mir.Syntax.{w16, w32}
+use mir.Val.{SFits}
+use Rattle.numbers.proofs.Read.{zreads}
+use Rattle.averages.specs.Averages.{average_of}
+use Rattle.spectrum.specs.Spectrum.{compare_of}
+use Rattle.detector.specs.Step.{spectral_of}
+use Rattle.detector.proofs.spectral.Goals as goal
+use Rattle.detector.proofs.spectral.Goals.{After-average-a, After-compare-d, After-predicted-f, Start}
+
+average_is : (c : After-average-a) → c.average-a.result ≡ average_of c.args.acf c.args.scalvad c.args.s.sacf c.args.s.ptsacf c.args.s.sav0 c.args.s.ptsav0
+average_is c = let f = c.ranges.scalvad in simp zreads at c.average-a.ensures
+
+compare_is : (c : After-compare-d) → c.compare-d.result ≡ compare_of c.average-a.result.av0 c.predicted-f.result.rav1 c.predicted-f.result.normrav1 c.args.s.lastdm
+compare_is c =
+    let f : SFits w32 c.args.s.lastdm = search rules in
+    let g : SFits w16 c.predicted-f.result.normrav1 = search rules in
+    simp zreads at c.compare-d.ensures
+
+pub returns : goal.returns
+unfolding spectral_of
+returns c =
+    let f : SFits w32 c.compare-d.result.dm = search rules in
+    let g : SFits w16 c.predicted-f.result.normrav1 = search rules in
+    simp zreads (rw (compare_is (goal.at.returns c).After-compare-d, c.predicted-f.ensures, average_is (goal.at.returns c).After-average-a))

@@ -1,0 +1,18 @@
+-- `hangover::hangover` is the clause: the count of raw speech, and what it starts. Assumes nothing.
+use borrow.Author.Rules.{rules}
+use mathlib.Core.Path.{◌≡◌, ap, ◌∙◌}
+use lib.IntN.{ℤ}
+use mir.Syntax.{w16}
+use Rattle.numbers.proofs.Read.{ranged, zreads}
+use Rattle.hangover.specs.Hangover.{burst_of, started_of, hangover_of}
+use Rattle.hangover.proofs.hangover.Goals as goal
+
+pub returns : goal.returns
+unfolding hangover_of
+returns c =
+    let s = c.before.before in
+    let f = s.ranges.burstcount in
+    let g = s.ranges.hangcount in
+    let h = ranged w16 c.before.burst.result c.before.burst.type_inv in
+    let b : c.before.burst.result ≡ burst_of s.args.vvad s.args.burstcount = simp zreads at c.before.burst.ensures in
+    (simp zreads at c.started.ensures) ∙ ap (λ (z : ℤ). started_of s.args.vvad z s.args.hangcount) b

@@ -1,0 +1,10 @@
+-- `lindenflax::lindenflax_write_line` hands on what `lines::write` answers and leaves. Assumes nothing.
+use Rattle.numbers.proofs.Read.{zreads}
+use Rattle.lindenflax.specs.Lines.{write_number, write_line}
+use Rattle.lindenflax.proofs.lindenflax_write_line.Goals as goal
+
+pub returns : goal.returns
+unfolding write_number write_line
+returns c =
+    let f = c.ranges.scale in
+    simp zreads at c.write.ensures

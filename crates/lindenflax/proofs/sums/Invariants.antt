@@ -1,0 +1,12 @@
+-- `lindenflax::sums` copies the averages, entry by entry. Assumes nothing.
+use mathlib.Core.Path.{◌≡◌}
+use Prim.Native.Nat.{◌-◌, ◌≤◌}
+use lib.ListN.{length, take}
+use Rattle.lindenflax.specs.Run.{part}
+use Rattle.lindenflax.proofs.sums.Given as goal
+
+abbrev pub invariant-loop-i : goal.invariant-loop-i
+invariant-loop-i l = (l.i ≤ 36) × (length l.out ≡ 36) × (length l.run ≡ 85) × (take l.i l.out ≡ take l.i (part 38 36 l.run))
+
+abbrev pub decreases-loop-i : goal.decreases-loop-i
+decreases-loop-i l = 36 - l.i

@@ -1,0 +1,11 @@
+-- `lines::acf_of` reads the numbers one after the other. Assumes nothing.
+use Rattle.std.proofs.Common.{◌≡◌, ◌-◌, ◌≤◌, length, take}
+use Rattle.rows.specs.Rows.{row}
+use Rattle.lines.specs.Line.{word_at}
+use Rattle.lines.proofs.acf_of.Given as goal
+
+abbrev pub invariant-loop-i : goal.invariant-loop-i
+invariant-loop-i l = (l.i ≤ 9) × (length l.acf ≡ 9) × (take l.i l.acf ≡ row l.i (word_at l.line))
+
+abbrev pub decreases-loop-i : goal.decreases-loop-i
+decreases-loop-i l = 9 - l.i
