@@ -36,7 +36,7 @@ use Rattle.runner.specs.Said as trace_said
 use Rattle.runner.specs.declared.Said.{Said}
 use Rattle.runner.specs.Run as trace
 use Rattle.runner.proofs.Steps.{said_no, said_ok}
-use Rattle.card.specs.Card.{Order, call, reset, channel_of, in_bank, state_at, called_of, number_only, next_for, said_for, answer_of, bank_after}
+use Rattle.card.specs.Card.{Order, call, reset, channel_of, in_bank, state_at, called_of, number_only, next_for, said_for, bank_after}
 use Rattle.card.specs.History.{all_reset, bank_from}
 use Rattle.card.proofs.Orders.{answer_in, answer_out}
 use Rattle.card.proofs.Histories.{size, others, stepped}

@@ -1,4 +1,6 @@
 // A card's trace run piece by piece: each line is an order on one of 64 channels. The bank, and what is unfinished, are carried by value.
+#![tactic(auto)]
+
 ghost use Rattle.std.specs.Prelude.{◌≡◌, ◌+◌, ◌*◌, ◌≤◌, length};
 ghost use Rattle.pieces.specs.Lines.{lines_of};
 ghost use Rattle.pieces.specs.Put.{put_of};

@@ -1,7 +1,7 @@
 -- Division with a rest: for every k above 0, z is k times the quotient rounded down and a rest from 0 to k - 1, and no other two numbers
 -- are so. A shift to the right by n is the quotient by 2 ^ n. Assumes nothing.
 use mathlib.Core.Path.{◌≡◌, refl, ap}
-use Prim.Native.Nat.{ℕ, suc, ◌+◌, ◌-◌, ◌*◌, ◌/◌, ◌%◌, ◌^◌, ◌<◌, ◌≤◌}
+use Prim.Native.Nat.{ℕ, suc, ◌+◌, ◌*◌, ◌/◌, ◌^◌, ◌<◌, ◌≤◌}
 use native.Mathlib.Nat.{mul-le-mul_left, div-add-mod', mod-lt, lt_of_le_of_lt}
 use native.Mathlib.Omega.{arith}
 use lib.IntN.{ℤ, nat_abs, pos, negsuc, ◌+ℤ◌, ◌*ℤ◌}

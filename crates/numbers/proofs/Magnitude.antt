@@ -1,10 +1,10 @@
 -- Magnitudes of sums and products, and the ranges that follow from them. Assumes nothing.
-use mathlib.Core.Path.{◌≡◌, refl, ap}
-use Prim.Native.Nat.{ℕ, zero, suc, ◌+◌, ◌*◌, ◌^◌, ◌<◌, ◌≤◌}
+use mathlib.Core.Path.{◌≡◌, refl}
+use Prim.Native.Nat.{ℕ, suc, ◌+◌, ◌*◌, ◌^◌, ◌<◌, ◌≤◌}
 use native.Mathlib.Nat.{mul-le-mul, mul-le-mul_right}
 use native.Mathlib.Omega.{arith}
 use lib.IntN.{ℤ, nat_abs, pos, negsuc, neg_ℤ, ◌+ℤ◌, ◌-ℤ◌, ◌*ℤ◌}
-use lib.Signed.{mag, ◌≤ℤ◌}
+use lib.Signed.{◌≤ℤ◌}
 use mir.Syntax.{Width}
 use mir.Val.{SFits, hbits}
 use Rattle.numbers.proofs.Parts.{up, down, zarith, neg, plus, minus, times, of, sign}

@@ -2,7 +2,7 @@
 -- `simp zreads at t` take these off; `ranged` and the three of one width make a range of what a call, an element of an array or a field gives.
 -- Assumes nothing.
 use mathlib.Core.Path.{◌≡◌, sym, ap, ◌∙◌}
-use Prim.Native.Nat.{ℕ, ◌^◌, ◌<◌, ◌≤◌}
+use Prim.Native.Nat.{◌^◌, ◌<◌}
 use lib.Dec.{T, leb}
 use lib.IntN.{ℤ}
 use lib.Signed.{mag}

@@ -8,7 +8,7 @@ use native.Mathlib.Nat.{le_refl}
 use native.Mathlib.Omega.{arith}
 use lib.Dec.{ltb}
 use borrow.Author.Tests.{ltb-true, ltb-false}
-use lib.IntN.{ℤ, nat_abs, pos, ◌+ℤ◌}
+use lib.IntN.{ℤ, nat_abs}
 use lib.ListN.{length}
 use Rattle.numbers.specs.Sum.{sum, total, at, sum_of, magnitudes_of, squares_of}
 use Rattle.numbers.proofs.Magnitude.{abs-+}

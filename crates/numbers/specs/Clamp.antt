@@ -1,6 +1,6 @@
 -- The number of a width nearest to a whole number: what a saturating operation of GSM 06.10 gives for an exact result.
 -- For whoever reads a definition that saturates; `numbers/proofs/Clamp.antt` shows that it is the nearest. Assumes nothing.
-use Rattle.std.specs.Prelude.{ℕ, ◌-◌, ◌^◌, min, ℤ, pos, negsuc}
+use Rattle.std.specs.Prelude.{◌-◌, ◌^◌, min, ℤ, pos, negsuc}
 use Rattle.std.specs.Int.{Width}
 use mir.Val.{hbits}
 

@@ -1,8 +1,8 @@
 -- The norm: a shift by it brings the magnitude into 2^30..2^31-1, and by no other amount. It is 0 for 0, and for -2^31, whose magnitude
 -- is beyond. The larger a magnitude, the smaller its norm. Assumes nothing.
-use mathlib.Core.Path.{◌≡◌, refl, sym, ap, ◌∙◌, subst}
+use mathlib.Core.Path.{◌≡◌, refl, sym, ap, ◌∙◌}
 use Prim.Native.Nat.{ℕ, zero, suc, ◌+◌, ◌-◌, ◌*◌, ◌^◌, ◌<◌, ◌≤◌}
-use native.Mathlib.Nat.{mul-le-mul_right, mul-lt-mul_of_pos_right, pow-suc}
+use native.Mathlib.Nat.{mul-le-mul_right, mul-lt-mul_of_pos_right}
 use native.Mathlib.Omega.{arith}
 use lib.Count.{count_leading_zeros, leading_top, leading_unique}
 use lib.IntN.{ℤ, nat_abs, pos, negsuc}

@@ -1,7 +1,7 @@
 -- Shifts by any amount, at every width: what is shifted out altogether, and the opposite shift of a negative amount. Assumes nothing.
 use mathlib.Core.Path.{◌≡◌, refl, sym, ap, ◌∙◌}
 use mathlib.Core.Bool.{true, false}
-use Prim.Native.Nat.{ℕ, ◌+◌, ◌-◌, ◌*◌, ◌/◌, ◌^◌, ◌<◌, ◌≤◌}
+use Prim.Native.Nat.{ℕ, ◌-◌, ◌*◌, ◌/◌, ◌^◌, ◌<◌, ◌≤◌}
 use native.Mathlib.Nat.{div-eq_of_lt, lt_of_lt_of_le}
 use native.Mathlib.Omega.{arith}
 use lib.IntN.{ℤ, nat_abs, pos, negsuc, ◌+ℤ◌, ◌-ℤ◌, ◌*ℤ◌}

@@ -1,6 +1,8 @@
 // Runs a card's trace, on a bank of 64 channels that are all reset: from standard input, or from the file that is named as the one argument, to the answers on standard output, four bytes a line.
-use files::Source;
+#![tactic(auto)]
+
 use exchange::Exchange;
+use files::Source;
 
 // What a turn leaves: whether the input goes on, whether all answers could be written, and the run so far.
 #[derive(Drop)]
@@ -11,7 +13,14 @@ struct Turned {
 }
 
 // Reads once, feeds what came, and writes the answers.
-fn turn(rt: HostRuntime, source: &mut Source, name: &[u8], r: Exchange, piece: &mut [u8], out: &mut [u8]) -> Turned {
+fn turn(
+    rt: HostRuntime,
+    source: &mut Source,
+    name: &[u8],
+    r: Exchange,
+    piece: &mut [u8],
+    out: &mut [u8],
+) -> Turned {
     let got = files::read(rt, source, name, piece);
     let n = got.n;
     let fed = exchange::feed(r, &piece[..n], out);

@@ -1,9 +1,11 @@
 // Runs a trace with its samples on the downlink: the two files that are named, to the answers on standard output, five bytes a line. Each line takes
 // the next 320 bytes of the samples; what the samples hold more than that is not read.
+#![tactic(auto)]
+
 ghost use Rattle.std.specs.Prelude.{◌*◌, ◌≤◌, length};
 ghost use Rattle.samples.specs.Samples.{frame_bytes};
 
-use libc::STDERR_FILENO;
+use files::Source;
 use listener::Listener;
 use samples::FRAME_BYTES;
 
@@ -18,9 +20,10 @@ struct Turned {
 // Reads once of the trace, fills in the samples of the lines that end in what came, feeds both, and writes the answers. Samples that can't be read
 // end the run: no line is answered as if they were missing.
 fn turn(
-    trace: i32,
+    rt: HostRuntime,
+    trace: &mut Source,
     trace_name: &[u8],
-    sound: i32,
+    sound: &mut Source,
     sound_name: &[u8],
     r: Listener,
     piece: &mut [u8],
@@ -29,10 +32,10 @@ fn turn(
 ) -> Turned
     requires { frame_bytes * length piece.old ≤ length samples.old }
 {
-    let got = files::read(trace, trace_name, piece);
+    let got = files::read(rt, trace, trace_name, piece);
     let n = got.n;
     let bytes = FRAME_BYTES * pieces::feeds(&piece[..n]);
-    let heard = files::fill(sound, sound_name, &mut samples[..bytes]);
+    let heard = files::fill(rt, sound, sound_name, &mut samples[..bytes]);
     if heard.failed {
         return Turned {
             more: false,
@@ -44,7 +47,7 @@ fn turn(
     let fed = listener::feed(r, &piece[..n], &samples[..k], out);
     let wrote = fed.wrote;
     let next = fed.listener;
-    let ok = files::write(&out[..wrote]);
+    let ok = files::write(rt, &out[..wrote]);
     Turned {
         more: got.more & ok,
         ok,
@@ -53,7 +56,13 @@ fn turn(
 }
 
 // Runs the whole trace. A proved loop has to end, and nothing says that the input does: the turns are counted down from a number that no run uses up.
-fn run(trace: i32, trace_name: &[u8], sound: i32, sound_name: &[u8]) {
+fn run(
+    rt: HostRuntime,
+    trace: &mut Source,
+    trace_name: &[u8],
+    sound: &mut Source,
+    sound_name: &[u8],
+) {
     let mut piece = [0u8; 1024];
     let mut samples = [0u8; 327680];
     let mut out = [0u8; 5120];
@@ -63,6 +72,7 @@ fn run(trace: i32, trace_name: &[u8], sound: i32, sound_name: &[u8]) {
     let mut ok = true;
     while turns > 0 && more {
         let t = turn(
+            rt,
             trace,
             trace_name,
             sound,
@@ -83,31 +93,31 @@ fn run(trace: i32, trace_name: &[u8], sound: i32, sound_name: &[u8]) {
     let last = listener::finish(r);
     let text = last.text;
     let wrote = last.wrote;
-    files::write(&text[..wrote]);
+    files::write(rt, &text[..wrote]);
 }
 
-fn main() {
-    if os::arg_count() != 3 {
-        io::write_all(STDERR_FILENO, b"run_downlink: a trace and its samples\n");
+fn main(rt: HostRuntime) {
+    if files::words(rt) != 3 {
+        files::complain(rt, b"run_downlink: a trace and its samples\n");
         return;
     }
-    let trace = files::named(1);
-    if !trace.open {
-        return;
-    }
-    let sound = files::named(2);
-    if sound.open {
-        let trace_name = trace.name;
-        let trace_length = trace.length;
+    let trace = files::named(rt, 1);
+    let trace_name = trace.name;
+    let trace_length = trace.length;
+    if let Some(mut trace) = trace.source {
+        let sound = files::named(rt, 2);
         let sound_name = sound.name;
         let sound_length = sound.length;
-        run(
-            trace.fd,
-            &trace_name[..trace_length],
-            sound.fd,
-            &sound_name[..sound_length],
-        );
-        files::close(sound.fd);
+        if let Some(mut sound) = sound.source {
+            run(
+                rt,
+                &mut trace,
+                &trace_name[..trace_length],
+                &mut sound,
+                &sound_name[..sound_length],
+            );
+            files::close(sound);
+        }
+        files::close(trace);
     }
-    files::close(trace.fd);
 }

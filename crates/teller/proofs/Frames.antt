@@ -10,7 +10,7 @@ use Rattle.rows.proofs.Choice.{by_yes, by_no, either}
 use Rattle.lines.specs.Answers.{decoded_of}
 use Rattle.pieces.specs.Pieces.{state_after}
 use Rattle.samples.specs.Samples.{frame_bytes}
-use Rattle.samples.specs.Beside.{Beside, block_of, next_beside}
+use Rattle.samples.specs.Beside.{block_of, next_beside}
 use Rattle.why.specs.declared.Why.{Why}
 use Rattle.why.specs.declared.Explainer.{Explainer}
 use Rattle.why.specs.Asked.{explained_to, explainer_from, told}

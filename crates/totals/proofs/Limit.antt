@@ -1,19 +1,18 @@
 -- Lines counted one after the other, from the answers counted so far: as many as can be, and 7 with the first that can't. Assumes nothing.
 use mathlib.Core.Path.{◌≡◌, refl, sym, ap, ◌∙◌}
-use mathlib.Core.Bool.{true, false}
 use mathlib.Core.List.{List, [], ◌∷◌, ◌++◌, append_assoc, append-nil}
-use Prim.Native.Nat.{ℕ, ◌+◌, ◌<◌, ◌≤◌}
+use Prim.Native.Nat.{ℕ, ◌<◌, ◌≤◌}
 use native.Mathlib.Omega.{arith}
 use borrow.Author.Tests.{le-leb, lt-leb, leb-true, leb-false, eq-eqb, ne_eqb}
 use lib.Dec.{leb}
 use lib.ListN.{length, take, length-append}
 use lib.Seq.{take_all, take_at}
 use Rattle.rows.specs.Choice.{IF◌THEN◌ELSE◌}
-use Rattle.rows.proofs.Choice.{or_left, or_right, or_same, either}
+use Rattle.rows.proofs.Choice.{or_same, either}
 use Rattle.counts.specs.declared.Reply.{Reply}
 use Rattle.counts.specs.declared.Totals.{Totals}
 use Rattle.counts.specs.declared.Counted.{Counted}
-use Rattle.counts.specs.Counts.{is_accepted, how_many, totals_of, limit, full_of, plus_of, count_of}
+use Rattle.counts.specs.Counts.{is_accepted, how_many, totals_of, limit, full_of, count_of}
 use Rattle.counts.proofs.Adds.{totals_append, three_add, two_add}
 use Rattle.counts.proofs.Room.{kept, over, more}
 use Rattle.state.specs.declared.State.{State}

@@ -1,10 +1,12 @@
 // Tells why each frame of a trace was sent or not: from standard input, or from the file that is named, to a line of words on standard output for each
 // line. With a second word the trace is one of the downlink, and this names its samples: each line takes the next 320 bytes of them.
+#![tactic(auto)]
+
 ghost use Rattle.std.specs.Prelude.{◌≡◌, ◌*◌, ◌≤◌, length};
 ghost use Rattle.io.specs.Counts.{IsPrefixLen};
 ghost use Rattle.samples.specs.Samples.{frame_bytes};
 
-use files::Got;
+use files::{Got, Source};
 use samples::FRAME_BYTES;
 use teller::Teller;
 
@@ -17,14 +19,21 @@ struct Turned {
 }
 
 // Reads the samples of the lines that end in a piece; on the uplink there are none.
-fn hear(downlink: bool, fd: i32, name: &[u8], piece: &[u8], samples: &mut [u8]) -> Got
+fn hear(
+    rt: HostRuntime,
+    downlink: bool,
+    sound: &mut Source,
+    name: &[u8],
+    piece: &[u8],
+    samples: &mut [u8],
+) -> Got
     requires { frame_bytes * length piece.now ≤ length samples.old }
     ensures prefix_len { IsPrefixLen result.n samples.new }
     ensures samples_len_unchanged { length samples.new ≡ length samples.old }
 {
     if downlink {
         let bytes = FRAME_BYTES * pieces::feeds(piece);
-        return files::fill(fd, name, &mut samples[..bytes]);
+        return files::fill(rt, sound, name, &mut samples[..bytes]);
     }
     Got {
         n: 0,
@@ -36,9 +45,10 @@ fn hear(downlink: bool, fd: i32, name: &[u8], piece: &[u8], samples: &mut [u8]) 
 // Reads once of the trace, then the samples of the lines that end in what came, feeds both, and writes what it is told. Samples that can't be read end
 // the run: no line is told as if they were missing.
 fn turn(
-    trace: i32,
+    rt: HostRuntime,
+    trace: &mut Source,
     trace_name: &[u8],
-    sound: i32,
+    sound: &mut Source,
     sound_name: &[u8],
     t: Teller,
     piece: &mut [u8],
@@ -47,10 +57,17 @@ fn turn(
 ) -> Turned
     requires { frame_bytes * length piece.old ≤ length samples.old }
 {
-    let got = files::read(trace, trace_name, piece);
+    let got = files::read(rt, trace, trace_name, piece);
     let n = got.n;
     let hearing = t.hearing;
-    let heard = hear(hearing.downlink, sound, sound_name, &piece[..n], samples);
+    let heard = hear(
+        rt,
+        hearing.downlink,
+        sound,
+        sound_name,
+        &piece[..n],
+        samples,
+    );
     if heard.failed {
         return Turned {
             more: false,
@@ -62,7 +79,7 @@ fn turn(
     let fed = teller::feed(t, &piece[..n], &samples[..k], out);
     let wrote = fed.wrote;
     let next = fed.teller;
-    let ok = files::write(&out[..wrote]);
+    let ok = files::write(rt, &out[..wrote]);
     Turned {
         more: got.more & ok,
         ok,
@@ -71,7 +88,14 @@ fn turn(
 }
 
 // Tells of the whole trace. A proved loop has to end, and nothing says that the input does: the turns are counted down from a number that no run uses up.
-fn tell_all(downlink: bool, trace: i32, trace_name: &[u8], sound: i32, sound_name: &[u8]) {
+fn tell_all(
+    rt: HostRuntime,
+    downlink: bool,
+    trace: &mut Source,
+    trace_name: &[u8],
+    sound: &mut Source,
+    sound_name: &[u8],
+) {
     let mut piece = [0u8; 1024];
     let mut samples = [0u8; 327680];
     let mut out = [0u8; 41984];
@@ -81,6 +105,7 @@ fn tell_all(downlink: bool, trace: i32, trace_name: &[u8], sound: i32, sound_nam
     let mut ok = true;
     while turns > 0 && more {
         let t = turn(
+            rt,
             trace,
             trace_name,
             sound,
@@ -101,49 +126,49 @@ fn tell_all(downlink: bool, trace: i32, trace_name: &[u8], sound: i32, sound_nam
     let last = teller::finish(teller);
     let text = last.text;
     let wrote = last.wrote;
-    files::write(&text[..wrote]);
+    files::write(rt, &text[..wrote]);
 }
 
-// On the uplink: the trace that is named, or standard input.
-fn uplink() {
-    let trace = files::open(b"why_trace: a trace, and its samples on the downlink\n");
-    if !trace.open {
-        return;
-    }
+// On the uplink: the trace that is named, or standard input. No samples are read there, from whatever stands for them.
+fn uplink(rt: HostRuntime) {
+    let trace = files::open(rt, b"why_trace: a trace, and its samples on the downlink\n");
     let name = trace.name;
     let length = trace.length;
-    tell_all(false, trace.fd, &name[..length], -1, b"");
-    files::close(trace.fd);
+    if let Some(mut trace) = trace.source {
+        let mut sound = Source::Standard(rt.stdin());
+        tell_all(rt, false, &mut trace, &name[..length], &mut sound, b"");
+        files::close(trace);
+    }
 }
 
 // On the downlink: the trace and the samples that are named.
-fn downlink() {
-    let trace = files::named(1);
-    if !trace.open {
-        return;
-    }
-    let sound = files::named(2);
-    if sound.open {
-        let trace_name = trace.name;
-        let trace_length = trace.length;
+fn downlink(rt: HostRuntime) {
+    let trace = files::named(rt, 1);
+    let trace_name = trace.name;
+    let trace_length = trace.length;
+    if let Some(mut trace) = trace.source {
+        let sound = files::named(rt, 2);
         let sound_name = sound.name;
         let sound_length = sound.length;
-        tell_all(
-            true,
-            trace.fd,
-            &trace_name[..trace_length],
-            sound.fd,
-            &sound_name[..sound_length],
-        );
-        files::close(sound.fd);
+        if let Some(mut sound) = sound.source {
+            tell_all(
+                rt,
+                true,
+                &mut trace,
+                &trace_name[..trace_length],
+                &mut sound,
+                &sound_name[..sound_length],
+            );
+            files::close(sound);
+        }
+        files::close(trace);
     }
-    files::close(trace.fd);
 }
 
-fn main() {
-    if os::arg_count() == 3 {
-        downlink();
+fn main(rt: HostRuntime) {
+    if files::words(rt) == 3 {
+        downlink(rt);
     } else {
-        uplink();
+        uplink(rt);
     }
 }

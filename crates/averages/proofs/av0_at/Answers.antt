@@ -1,5 +1,4 @@
 -- `averages::av0_at` adds four entries, in the order of the clause. Assumes nothing.
-use borrow.Author.Rules.{rules}
 use mathlib.Core.Path.{ap₂, ◌∙◌}
 use mir.Syntax.{w32}
 use Rattle.numbers.proofs.Read.{back}

@@ -1,9 +1,7 @@
 -- `averages::av1` reads the oldest nine entries: after i turns, the first i. Assumes nothing.
 use borrow.Author.Rules.{rules}
-use mathlib.Core.Path.{◌≡◌}
-use Prim.Native.Nat.{◌-◌, ◌≤◌}
 use native.Mathlib.Omega.{arith}
-use lib.ListN.{length, take, length-set}
+use lib.ListN.{length-set}
 use mir.Syntax.{w32}
 use Rattle.numbers.proofs.Read.{back}
 use Rattle.rows.specs.Rows.{row}

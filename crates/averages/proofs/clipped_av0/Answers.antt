@@ -1,14 +1,12 @@
 -- `averages::clipped_av0` fills the nine sums from the front. Assumes nothing.
 use borrow.Author.Rules.{rules}
-use mathlib.Core.Path.{◌≡◌, ◌∙◌}
-use Prim.Native.Nat.{◌-◌, ◌≤◌}
+use mathlib.Core.Path.{◌∙◌}
 use native.Mathlib.Omega.{arith}
-use lib.ListN.{length, take, length-set}
+use lib.ListN.{length-set}
 use mir.Syntax.{w32}
 use Rattle.numbers.proofs.Read.{back}
 use Rattle.rows.specs.Rows.{row}
 use Rattle.rows.proofs.Fill.{fill_more, fill_all}
-use Rattle.averages.specs.Averages.{l_av0_of}
 use Rattle.averages.proofs.clipped_av0.Goals as goal
 
 pub loop-i-init : goal.loop-i-init

@@ -1,5 +1,4 @@
 -- `averages::next` gives the pointer of the next frame. Assumes nothing.
-use borrow.Author.Rules.{rules}
 use mathlib.Core.Path.{sym}
 use borrow.Author.Tests.{eq-eqb, ne_eqb}
 use Rattle.rows.proofs.Choice.{by_yes, by_no}

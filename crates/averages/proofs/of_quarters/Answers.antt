@@ -1,5 +1,4 @@
 -- `averages::of_quarters` tests the range of each number. Assumes nothing.
-use borrow.Author.Rules.{rules}
 use Rattle.averages.specs.Quarters.{quarter}
 use Rattle.averages.proofs.of_quarters.Goals as goal
 

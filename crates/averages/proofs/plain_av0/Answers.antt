@@ -2,10 +2,10 @@
 use borrow.Author.Rules.{rules}
 use mathlib.Core.Path.{◌≡◌, sym}
 use mathlib.Core.List.{List}
-use Prim.Native.Nat.{ℕ, ◌+◌, ◌-◌, ◌≤◌}
+use Prim.Native.Nat.{ℕ, ◌+◌}
 use native.Mathlib.Omega.{arith}
 use lib.IntN.{ℤ, ◌+ℤ◌}
-use lib.ListN.{length, take, length-set}
+use lib.ListN.{length-set}
 use mir.Syntax.{w32}
 use mir.Val.{SFits, to_z, of_z}
 use mir.Facts.{to_z-of_z}
@@ -13,7 +13,6 @@ use Rattle.numbers.specs.Sum.{at}
 use Rattle.numbers.proofs.Read.{back}
 use Rattle.rows.specs.Rows.{row}
 use Rattle.rows.proofs.Fill.{fill_more, fill_all}
-use Rattle.averages.specs.Averages.{l_av0_of}
 use Rattle.averages.proofs.Quarters.{Four, four_at, two_fits, three_fits, four_fits, av0_exact}
 use Rattle.averages.proofs.plain_av0.Goals as goal
 use Rattle.averages.proofs.plain_av0.Goals.{After-out-in-loop-i-3-1, At-loop-i}

@@ -1,11 +1,8 @@
 -- `averages::stored36` stores the frame at the pointer: after i turns, its first i entries. Assumes nothing.
 use borrow.Author.Rules.{rules}
-use mathlib.Core.Path.{◌≡◌}
-use Prim.Native.Nat.{◌-◌, ◌≤◌}
 use native.Mathlib.Omega.{arith}
 use lib.IntN.{pos}
-use lib.ListN.{length}
-use lib.Seq.{paste, paste-zero}
+use lib.Seq.{paste-zero}
 use mir.Syntax.{w32}
 use Rattle.numbers.proofs.Read.{back}
 use Rattle.rows.proofs.Fill.{store_more, store_all}

@@ -1,5 +1,4 @@
 -- `energy::acf0` gives the energy of a frame as a pair. Assumes nothing.
-use borrow.Author.Rules.{rules}
 use mathlib.Core.Path.{◌≡◌, ap, ap₂, ◌∙◌}
 use lib.IntN.{ℤ, pos}
 use mir.Syntax.{w16, w32}

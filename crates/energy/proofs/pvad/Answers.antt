@@ -1,5 +1,4 @@
 -- `energy::pvad` gives the filtered energy as a pair. Assumes nothing.
-use borrow.Author.Rules.{rules}
 use mathlib.Core.Path.{ap, ap₂, ◌∙◌}
 use lib.IntN.{ℤ, pos}
 use mir.Syntax.{w16}

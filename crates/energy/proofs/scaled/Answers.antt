@@ -1,5 +1,4 @@
 -- `energy::scaled` gives one autocorrelation in 13 bits: the top half, and three bits less. Assumes nothing.
-use borrow.Author.Rules.{rules}
 use mathlib.Core.Path.{ap, ap₂, ◌∙◌}
 use lib.IntN.{ℤ, pos}
 use mir.Syntax.{w16, w32}

@@ -1,5 +1,4 @@
 -- `hangover::burst` counts the raw speech in a row. Assumes nothing.
-use borrow.Author.Rules.{rules}
 use mathlib.Core.Path.{◌∙◌}
 use mir.Syntax.{w16}
 use Rattle.numbers.proofs.Read.{back, zreads}

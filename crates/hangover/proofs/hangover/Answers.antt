@@ -1,5 +1,4 @@
 -- `hangover::hangover` is the clause: the count of raw speech, and what it starts. Assumes nothing.
-use borrow.Author.Rules.{rules}
 use mathlib.Core.Path.{◌≡◌, ap, ◌∙◌}
 use lib.IntN.{ℤ}
 use mir.Syntax.{w16}

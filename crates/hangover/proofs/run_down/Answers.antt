@@ -1,5 +1,4 @@
 -- `hangover::run_down` takes one frame off a running hangover. Assumes nothing.
-use borrow.Author.Rules.{rules}
 use mathlib.Core.Path.{◌≡◌}
 use mathlib.Core.Bool.{true, false}
 use lib.IntN.{pos}

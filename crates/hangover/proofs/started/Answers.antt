@@ -1,5 +1,4 @@
 -- `hangover::started` starts the hangover anew after a long burst. Assumes nothing.
-use borrow.Author.Rules.{rules}
 use Rattle.numbers.proofs.Read.{zreads}
 use Rattle.rows.specs.Choice.{IF◌THEN◌ELSE◌}
 use Rattle.hangover.specs.Hangover.{started_of}

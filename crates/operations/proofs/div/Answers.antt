@@ -1,5 +1,4 @@
 -- `operations::div` gives the clamped quotient in 32768ths. By a number below 0, both are negated, which changes no quotient. Assumes nothing.
-use borrow.Author.Rules.{rules}
 use mathlib.Core.Path.{◌≡◌, refl, sym, ap, ap₂, ◌∙◌}
 use mathlib.Core.Bool.{true, false}
 use Prim.Native.Nat.{zero, suc}

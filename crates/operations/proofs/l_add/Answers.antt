@@ -1,5 +1,4 @@
 -- `operations::l_add` gives the clamped sum: it is exact at the wider width. Assumes nothing.
-use borrow.Author.Rules.{rules}
 use lib.IntN.{◌+ℤ◌}
 use mir.Syntax.{w32, w64}
 use Rattle.numbers.proofs.Read.{cast_need}

@@ -1,5 +1,4 @@
 -- `operations::l_mult` clips the one double that does not fit, and answers the others as they are. Assumes nothing.
-use borrow.Author.Rules.{rules}
 use mathlib.Core.Path.{◌≡◌, sym, ap, ◌∙◌}
 use Prim.Native.Nat.{◌≤◌}
 use native.Mathlib.Omega.{arith}

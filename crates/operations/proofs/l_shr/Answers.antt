@@ -1,5 +1,4 @@
 -- `operations::l_shr` gives the shift to the right of a number of 32 bits, by any amount. Assumes nothing.
-use borrow.Author.Rules.{rules}
 use mathlib.Core.Path.{◌≡◌, ◌∙◌, ap}
 use Prim.Native.Nat.{ℕ, ◌^◌}
 use lib.IntN.{nat_abs, pos, ◌*ℤ◌}

@@ -1,5 +1,4 @@
 -- `operations::left32` gives the wrapped product by a power of two. Assumes nothing.
-use borrow.Author.Rules.{rules}
 use mir.Syntax.{w32}
 use Rattle.numbers.proofs.Wrap.{shl_is}
 use Rattle.operations.proofs.Shift.{left_far}

@@ -1,5 +1,4 @@
 -- `operations::mult` gives the clamped product in 32768ths, rounded down. Assumes nothing.
-use borrow.Author.Rules.{rules}
 use mathlib.Core.Path.{◌≡◌, ◌∙◌, ap}
 use Prim.Native.Nat.{◌^◌}
 use lib.IntN.{ℤ, ◌*ℤ◌}

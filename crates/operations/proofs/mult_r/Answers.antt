@@ -1,5 +1,4 @@
 -- `operations::mult_r` gives the clamped product in 32768ths, rounded to the nearest. Assumes nothing.
-use borrow.Author.Rules.{rules}
 use mathlib.Core.Path.{◌≡◌, ◌∙◌, ap}
 use Prim.Native.Nat.{ℕ, ◌^◌, ◌≤◌}
 use native.Mathlib.Omega.{arith}

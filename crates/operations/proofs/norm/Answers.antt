@@ -1,6 +1,5 @@
 -- `operations::norm` gives the norm. The magnitude is moved up by one digit, so its zeros among 32 digits are as many as they were among 31. Nothing is
 -- left of 0, nor of 2^31, and the norm of both is 0. Assumes nothing.
-use borrow.Author.Rules.{rules}
 use mathlib.Core.Path.{◌≡◌, refl, sym, ap, ◌∙◌}
 use Prim.Native.Nat.{ℕ, zero, suc, ◌*◌, ◌%◌, ◌^◌, ◌<◌}
 use native.Mathlib.Omega.{arith}

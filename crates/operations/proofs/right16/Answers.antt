@@ -1,5 +1,4 @@
 -- `operations::right16` gives the quotient by a power of two, rounded down. Assumes nothing.
-use borrow.Author.Rules.{rules}
 use mathlib.Core.Path.{◌∙◌}
 use native.Mathlib.Omega.{arith}
 use mir.Syntax.{w16}

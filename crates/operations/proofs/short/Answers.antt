@@ -1,5 +1,4 @@
 -- `operations::short` gives the low 16 bits: what is above them is shifted out, and the rest shifted back. Assumes nothing.
-use borrow.Author.Rules.{rules}
 use mathlib.Core.Path.{◌≡◌, sym, ap, ◌∙◌, subst}
 use Prim.Native.Nat.{◌^◌}
 use lib.IntN.{ℤ, pos, ◌*ℤ◌}

@@ -1,5 +1,4 @@
 -- `operations::topped` gives the top half of the shifted number, which fits 16 bits. Assumes nothing.
-use borrow.Author.Rules.{rules}
 use mathlib.Core.Path.{◌≡◌, ap, ◌∙◌}
 use native.Mathlib.Omega.{arith}
 use lib.IntN.{ℤ, pos}

@@ -1,17 +1,13 @@
 -- `rows::all_within` tests each entry: after k turns, what was found and a test of the rest are the test of all. Assumes nothing.
-use borrow.Author.Rules.{rules}
 use mathlib.Core.Path.{◌≡◌, refl, ap, ◌∙◌}
-use mathlib.Core.Bool.{Bool, ◌&&◌}
-use Prim.Native.Nat.{◌-◌, ◌≤◌}
+use mathlib.Core.Bool.{Bool}
 use native.Mathlib.Omega.{arith}
 use lib.IntN.{ℤ, pos}
-use lib.ListN.{drop}
 use mir.Syntax.{w32}
 use mir.Val.{to_z, of_z}
 use Rattle.numbers.specs.Sum.{at}
 use Rattle.numbers.proofs.Read.{back, zreads}
 use Rattle.rows.specs.Choice.{within}
-use Rattle.rows.specs.Rows.{all}
 use Rattle.rows.proofs.All.{all_more, all_found}
 use Rattle.rows.proofs.all_within.Goals as goal
 use Rattle.rows.proofs.all_within.Goals.{Start}

@@ -1,5 +1,4 @@
 -- `rows::four` takes the lags in their order. Assumes nothing.
-use borrow.Author.Rules.{rules}
 use Rattle.rows.specs.Rows.{row, first_of}
 use Rattle.rows.proofs.four.Goals as goal
 

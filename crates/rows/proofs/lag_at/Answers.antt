@@ -1,5 +1,4 @@
 -- `rows::lag_at` reads the lag, or answers 0. Assumes nothing.
-use borrow.Author.Rules.{rules}
 use mathlib.Core.Path.{sym}
 use lib.ListN.{get_or-eq_default}
 use Rattle.rows.proofs.lag_at.Goals as goal

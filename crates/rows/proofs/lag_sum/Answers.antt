@@ -1,5 +1,4 @@
 -- `rows::lag_sum` gives the running sum, of two small rows by twice the exact sum. Assumes nothing.
-use borrow.Author.Rules.{rules}
 use mathlib.Core.Path.{◌≡◌, sym, ap, ◌∙◌}
 use lib.IntN.{ℤ, pos, ◌*ℤ◌}
 use mir.Syntax.{w32}

@@ -2,14 +2,14 @@
 use borrow.Author.Rules.{rules}
 use mathlib.Core.Path.{◌≡◌, refl, sym, ap, ◌∙◌}
 use mathlib.Core.Bool.{true}
-use Prim.Native.Nat.{◌-◌, ◌≤◌}
+use Prim.Native.Nat.{◌-◌}
 use native.Mathlib.Omega.{arith}
 use lib.IntN.{pos}
-use lib.ListN.{length, length-set, take}
+use lib.ListN.{length, length-set}
 use lib.Seq.{take_all}
 use mir.Syntax.{w32}
 use Rattle.numbers.proofs.Read.{back}
-use Rattle.rows.specs.Rows.{row, all, l_lagged, thirteen}
+use Rattle.rows.specs.Rows.{row, all, thirteen}
 use Rattle.rows.proofs.All.{all_part}
 use Rattle.rows.proofs.Fill.{fill_more, fill_all}
 use Rattle.rows.proofs.Lag.{rear_length, products_lagged}

@@ -1,5 +1,4 @@
 -- `rows::long_at` reads the number, or answers 0. Assumes nothing.
-use borrow.Author.Rules.{rules}
 use mathlib.Core.Path.{sym}
 use lib.IntN.{pos}
 use lib.ListN.{get_or-eq_default}

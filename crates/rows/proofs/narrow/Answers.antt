@@ -1,16 +1,12 @@
 -- `rows::narrow` tests each entry: after k turns, what was found and a test of the rest are the test of all. Assumes nothing.
-use borrow.Author.Rules.{rules}
 use mathlib.Core.Path.{◌≡◌, refl, ap, ◌∙◌}
-use mathlib.Core.Bool.{◌&&◌}
-use Prim.Native.Nat.{◌-◌, ◌≤◌}
 use native.Mathlib.Omega.{arith}
 use lib.IntN.{pos, negsuc}
-use lib.ListN.{drop}
 use mir.Syntax.{w16}
 use Rattle.numbers.specs.Sum.{at}
 use Rattle.numbers.proofs.Read.{back}
 use Rattle.rows.specs.Choice.{within}
-use Rattle.rows.specs.Rows.{all, thirteen}
+use Rattle.rows.specs.Rows.{thirteen}
 use Rattle.rows.proofs.All.{all_more, all_found}
 use Rattle.rows.proofs.narrow.Goals as goal
 

@@ -1,10 +1,10 @@
 -- `rows::nine` takes the numbers one after the other. Assumes nothing.
 use borrow.Author.Rules.{rules}
-use mathlib.Core.Path.{◌≡◌, refl, ◌∙◌}
-use Prim.Native.Nat.{ℕ, ◌-◌, ◌≤◌}
+use mathlib.Core.Path.{refl, ◌∙◌}
+use Prim.Native.Nat.{ℕ}
 use native.Mathlib.Omega.{arith}
 use lib.IntN.{pos}
-use lib.ListN.{length, get_or, take, length-set}
+use lib.ListN.{get_or, length-set}
 use mir.Syntax.{w32}
 use Rattle.numbers.proofs.Read.{back}
 use Rattle.rows.specs.Rows.{row, first_of}

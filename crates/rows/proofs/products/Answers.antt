@@ -1,5 +1,4 @@
 -- `rows::products` gives the running sum, of a narrow row by its exact sum. Assumes nothing.
-use borrow.Author.Rules.{rules}
 use borrow.Author.Tests.{leb-true}
 use mathlib.Core.Path.{◌≡◌, sym, ap₂, ◌∙◌}
 use mathlib.Core.Bool.{true}

@@ -1,11 +1,11 @@
 -- `teller::digits` writes a digit a turn, the last first. Assumes nothing.
 use borrow.Author.Rules.{rules}
-use mathlib.Core.Path.{◌≡◌, refl, ◌∙◌}
-use mathlib.Core.List.{◌++◌, append-nil}
-use Prim.Native.Nat.{◌+◌, ◌^◌, ◌<◌, ◌≤◌}
+use mathlib.Core.Path.{refl, ◌∙◌}
+use mathlib.Core.List.{append-nil}
+use Prim.Native.Nat.{◌<◌}
 use native.Mathlib.Omega.{arith}
-use lib.ListN.{length, drop, length-set}
-use Rattle.teller.specs.Decimal.{decimal_from, decimal_of}
+use lib.ListN.{length-set}
+use Rattle.teller.specs.Decimal.{decimal_of}
 use Rattle.teller.proofs.Decimal.{digit_next, digit_last, digit_room, digit_small}
 use Rattle.teller.proofs.digits.Goals as goal
 use Rattle.teller.proofs.digits.Goals.{In-loop-rest}

@@ -25,7 +25,7 @@ use Rattle.teller.specs.Fed.{ran_of, beside_of, written_of, next_teller, fed_of,
 use Rattle.teller.proofs.Steps.{text_most}
 use borrow.Author.Rules.{rules}
 use Rattle.teller.proofs.feed.Goals as goal
-use Rattle.teller.proofs.feed.Goals.{After-cut-c, After-head-1, After-run-a, Else-out-input, Start}
+use Rattle.teller.proofs.feed.Goals.{After-cut-c, After-head-1, After-run-a, Else-out-input}
 
 -- the run that some lines leave, and the samples that they left
 abbrev beside : Hearing → List ℕ → Beside Hearing
@@ -49,7 +49,7 @@ pub returns-then-out-input : goal.returns-then-out-input
 unfolding fed_of out_after IF◌THEN◌ELSE◌
 returns-then-out-input c =
     let h = lt-leb (length c.args.input.now) (length c.args.out.now / most) c.if-out-input.true in
-    (rw h, rw h)
+    record { value = rw h; out_after = rw h }
 
 fits : (c : After-head-1) → c.cut-c.result.n ≤ length c.cut-c.result.head
 fits c =
@@ -78,40 +78,31 @@ run-a-requires c =
     head_room (next_beside next_of) (text_beside line_text) most text_most a.t.finder a.input.now _ _ (cut_head _ _ q.result q.ensures) (cut_mid _ _ q.result q.ensures) (beside_of a.t a.samples.now) a.out.now (big (goal.at.run-a-requires c).Else-out-input)
 
 -- after the first run
-module _ (u : After-run-a) where
-  abbrev cutting : After-cut-c
-  cutting = u.before.before.before.before
-
-  abbrev start : Start
-  start = cutting.before.before.before.before.before.before.before
-
-  first : (u.run-a.result.used ≤ length start.args.samples.now) × (beside u.run-a.result.hearing (drop u.run-a.result.used start.args.samples.now) ≡ hearing_of (beside_of start.args.t start.args.samples.now) (lines_of (take cutting.cut-c.result.n cutting.cut-c.result.head)))
-  first = ran_left start.args.t.hearing start.args.samples.now _ 0 u.run-a.result u.run-a.ensures.value
+first : (c : After-run-a) → (c.run-a.result.used ≤ length c.args.samples.now) × (beside c.run-a.result.hearing (drop c.run-a.result.used c.args.samples.now) ≡ hearing_of (beside_of c.args.t c.args.samples.now) (lines_of (take c.cut-c.result.n c.cut-c.result.head)))
+first c = ran_left c.args.t.hearing c.args.samples.now _ 0 c.run-a.result c.run-a.ensures.value
 
 pub slice_bounds-run-count : goal.slice_bounds-run-count
-slice_bounds-run-count c = (parted (cutting c.before.before.before)).0
+slice_bounds-run-count c = (parted (goal.at.slice_bounds-run-count c).After-cut-c).0
 
 pub slice_bounds-run-start : goal.slice_bounds-run-start
-slice_bounds-run-start c = (parted (cutting c.before.before.before)).0
+slice_bounds-run-start c = (parted (goal.at.slice_bounds-run-start c).After-cut-c).0
 
 pub slice_bounds-run-end-2 : goal.slice_bounds-run-end-2
-slice_bounds-run-end-2 c = (parted (cutting c.before.before.before)).1
+slice_bounds-run-end-2 c = (parted (goal.at.slice_bounds-run-end-2 c).After-cut-c).1
 
 pub slice_bounds-run-count-2 : goal.slice_bounds-run-count-2
-slice_bounds-run-count-2 c = (first c.before.before.before.before).0
+slice_bounds-run-count-2 c = (first (goal.at.slice_bounds-run-count-2 c).After-run-a).0
 
 pub slice_bounds-run-start-2 : goal.slice_bounds-run-start-2
-slice_bounds-run-start-2 c = (first c.before.before.before.before).0
+slice_bounds-run-start-2 c = (first (goal.at.slice_bounds-run-start-2 c).After-run-a).0
 
 pub run-b-requires : goal.run-b-requires
 unfolding ran_of texts_of
 run-b-requires c =
-    let u = c.before.before.before.before.before.before in
-    let k = cutting u in
-    let a = (start u).args in
-    let q = k.cut-c in
-    let m = mid_room (next_beside next_of) (text_beside line_text) most text_most a.t.finder a.input.now _ _ (cut_head _ _ q.result q.ensures) (cut_mid _ _ q.result q.ensures) (beside_of a.t a.samples.now) a.out.now (big (goal.at.run-b-requires c).Else-out-input) u.run-a.result.wrote (ap (λ (x : Ran). x.wrote) u.run-a.ensures.value) in
-    subst (λ (j : ℕ). u.run-a.result.wrote + most * length (lines_of (take (q.result.to - q.result.from) (drop q.result.from a.input.now))) ≤ j) (sym (ap length u.run-a.ensures.out_after ∙ put_length _ _ _)) m
+    let a = c.args in
+    let q = c.cut-c in
+    let m = mid_room (next_beside next_of) (text_beside line_text) most text_most a.t.finder a.input.now _ _ (cut_head _ _ q.result q.ensures) (cut_mid _ _ q.result q.ensures) (beside_of a.t a.samples.now) a.out.now (big (goal.at.run-b-requires c).Else-out-input) c.run-a.result.wrote (ap (λ (x : Ran). x.wrote) c.run-a.ensures.value) in
+    subst (λ (j : ℕ). c.run-a.result.wrote + most * length (lines_of (take (q.result.to - q.result.from) (drop q.result.from a.input.now))) ≤ j) (sym (ap length c.run-a.ensures.out_after ∙ put_length _ _ _)) m
 
 abbrev made : Hearing → ℕ → Finder → Fed
 made h n f = record { refusal = 0; wrote = n; teller = record { hearing = h; finder = f } }
@@ -119,26 +110,23 @@ made h n f = record { refusal = 0; wrote = n; teller = record { hearing = h; fin
 pub returns : goal.returns
 unfolding ran_of hearing_of texts_of written_of next_teller fed_of out_after IF◌THEN◌ELSE◌
 returns c =
-    let v = c.before.before.before.before in
-    let u = v.before.before.before.before.before.before.before in
-    let k = cutting u in
-    let a = (start u).args in
-    let q = k.cut-c in
+    let a = c.args in
+    let q = c.cut-c in
     let g = big (goal.at.returns c).Else-out-input in
     let h = le-leb (length a.input.now) (length a.out.now / most) (omega arith) in
     let x = cut_head _ _ q.result q.ensures in
     let y = cut_mid _ _ q.result q.ensures in
-    let left = drop u.run-a.result.used a.samples.now in
-    let lent = rest_is a.samples.now u.run-a.result.used in
+    let left = drop c.run-a.result.used a.samples.now in
+    let lent = rest_is a.samples.now c.run-a.result.used in
     let mid = take (q.result.to - q.result.from) (drop q.result.from a.input.now) in
-    let one = u.run-a.result.hearing in
-    let two : v.run-b.result ≡ ran_of one left mid u.run-a.result.wrote = v.run-b.ensures.value ∙ ap (λ (l : List ℕ). ran_of one l mid u.run-a.result.wrote) lent in
-    let wrote = v.run-b.ensures.out_after ∙ ap (λ (l : List ℕ). out_of u.run-a.new.1.1.1.0 u.run-a.result.wrote (beside one l) mid) lent in
-    let s₁ = (first u).1 in
-    let s₂ = (ran_left one left mid u.run-a.result.wrote v.run-b.result two).1 in
-    let n₁ = ap (λ (z : Ran). z.wrote) u.run-a.ensures.value in
+    let one = c.run-a.result.hearing in
+    let two : c.run-b.result ≡ ran_of one left mid c.run-a.result.wrote = c.run-b.ensures.value ∙ ap (λ (l : List ℕ). ran_of one l mid c.run-a.result.wrote) lent in
+    let wrote = c.run-b.ensures.out_after ∙ ap (λ (l : List ℕ). out_of c.run-a.new.out c.run-a.result.wrote (beside one l) mid) lent in
+    let s₁ = (first (goal.at.returns c).After-run-a).1 in
+    let s₂ = (ran_left one left mid c.run-a.result.wrote c.run-b.result two).1 in
+    let n₁ = ap (λ (z : Ran). z.wrote) c.run-a.ensures.value in
     let n₂ = ap (λ (z : Ran). z.wrote) two in
-    let st = piece_state (next_beside next_of) (text_beside line_text) most text_most a.t.finder a.input.now _ _ x y (beside_of a.t a.samples.now) a.out.now g _ _ _ _ _ _ s₁ s₂ n₁ n₂ u.run-a.ensures.out_after wrote in
-    let ct = piece_count (next_beside next_of) (text_beside line_text) most text_most a.t.finder a.input.now _ _ x y (beside_of a.t a.samples.now) a.out.now g _ _ _ _ _ _ s₁ s₂ n₁ n₂ u.run-a.ensures.out_after wrote in
-    let ot = piece_out (next_beside next_of) (text_beside line_text) most text_most a.t.finder a.input.now _ _ x y (beside_of a.t a.samples.now) a.out.now g _ _ _ _ _ _ s₁ s₂ n₁ n₂ u.run-a.ensures.out_after wrote in
-    record { value = rw h (ap (made v.run-b.result.hearing v.run-b.result.wrote) (cut_rest _ _ q.result q.ensures) ∙ ap₂ (λ (z : Hearing) (j : ℕ). made z j (rest_of a.t.finder a.input.now)) (ap (λ (b : Beside Hearing). b.state) st) ct); out_after = rw h ot }
+    let st = piece_state (next_beside next_of) (text_beside line_text) most text_most a.t.finder a.input.now _ _ x y (beside_of a.t a.samples.now) a.out.now g _ _ _ _ _ _ s₁ s₂ n₁ n₂ c.run-a.ensures.out_after wrote in
+    let ct = piece_count (next_beside next_of) (text_beside line_text) most text_most a.t.finder a.input.now _ _ x y (beside_of a.t a.samples.now) a.out.now g _ _ _ _ _ _ s₁ s₂ n₁ n₂ c.run-a.ensures.out_after wrote in
+    let ot = piece_out (next_beside next_of) (text_beside line_text) most text_most a.t.finder a.input.now _ _ x y (beside_of a.t a.samples.now) a.out.now g _ _ _ _ _ _ s₁ s₂ n₁ n₂ c.run-a.ensures.out_after wrote in
+    record { value = rw h (ap (made c.run-b.result.hearing c.run-b.result.wrote) (cut_rest _ _ q.result q.ensures) ∙ ap₂ (λ (z : Hearing) (j : ℕ). made z j (rest_of a.t.finder a.input.now)) (ap (λ (b : Beside Hearing). b.state) st) ct); out_after = rw h ot }

@@ -1,5 +1,4 @@
 -- `teller::finish` refuses what is carried, if anything is. Assumes nothing.
-use borrow.Author.Rules.{rules}
 use mathlib.Core.Path.{sym, ◌∙◌}
 use borrow.Author.Tests.{eq-eqb, ne_eqb}
 use Rattle.rows.specs.Choice.{IF◌THEN◌ELSE◌}

@@ -27,4 +27,5 @@ word-requires c =
 
 pub returns : goal.returns
 returns c =
-    puts_as c.args.out.now c.args.at (sym (part (goal.at.returns c).After-digits-d)) c.word.ensures
+    let both = puts_as c.args.out.now c.args.at (sym (part (goal.at.returns c).After-digits-d)) (c.word.ensures.value, c.word.ensures.out_after) in
+    record { value = both.0; out_after = both.1 }

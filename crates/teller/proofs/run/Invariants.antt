@@ -1,9 +1,8 @@
 -- `teller::run` tells line after line, each with its samples. Assumes nothing.
 use mathlib.Core.List.{List}
-use Prim.Native.Nat.{ℕ, ◌-◌, ◌<◌, ◌≤◌}
-use native.Mathlib.Omega.{arith}
+use Prim.Native.Nat.{ℕ, ◌-◌, ◌≤◌}
 use lib.ListN.{length, drop}
-use Rattle.pieces.proofs.Runs.{Runs, line_in, line_on}
+use Rattle.pieces.proofs.Runs.{Runs}
 use Rattle.samples.specs.Beside.{Beside, next_beside, text_beside}
 use Rattle.teller.specs.declared.Hearing.{Hearing}
 use Rattle.teller.specs.Words.{most}
@@ -13,13 +12,6 @@ use Rattle.teller.proofs.run.Given as goal
 -- the run, and the samples from a place on
 abbrev pub beside : Hearing → List ℕ → ℕ → Beside Hearing
 beside h samples used = record { state = h; left = drop used samples }
-
--- the line's end
-pub on : (c : tie.After-line-end invariant-loop decreases-loop) → (c.before.before.loop.i < c.line-end.result) × (c.line-end.result ≤ length c.before.before.before.before.before.before.args.input.now)
-on c =
-    let t = c in
-    let l = t.before.before.before.before.args.input.now in
-    (line_on l t.loop.i c.line-end.result (omega arith) c.line-end.ensures, line_in l t.loop.i c.line-end.result (omega arith) c.line-end.ensures)
 
 abbrev pub invariant-loop-i : goal.invariant-loop-i
 invariant-loop-i l =

@@ -1,5 +1,4 @@
 -- `teller::start` holds a run before its first frame, and no line. Assumes nothing.
-use borrow.Author.Rules.{rules}
 use Rattle.teller.specs.Fed.{start_of}
 use Rattle.teller.proofs.start.Goals as goal
 

@@ -19,7 +19,7 @@ use Rattle.why.specs.Explain.{explained_for}
 use Rattle.teller.specs.Run.{direction_by, sent_of, denied_of}
 use Rattle.teller.proofs.Steps.{told_no, told_ok}
 use Rattle.teller.proofs.tell.Goals as goal
-use Rattle.teller.proofs.tell.Goals.{After-decode-d, After-explain-r, After-read-heard, After-sof-1, Else-n-ne0}
+use Rattle.teller.proofs.tell.Goals.{After-explain-r, After-sof-1, Else-n-ne0}
 
 pub returns-then-n-ne0 : goal.returns-then-n-ne0
 unfolding denied_of
@@ -33,13 +33,10 @@ heard : (block : List ℕ) (s : Samples) → s ≡ read_of block → take s.coun
 unfolding sof_of
 heard block s e = ap (λ (x : Samples). take x.count x.sof) e ∙ read_is block
 
-abbrev decoding : After-read-heard → After-decode-d
-decoding c = c.before.before.before.before.before.before
-
 fits : (c : After-sof-1) → c.read-heard.result.count ≤ length c.read-heard.result.sof
 fits c =
     let n : length c.read-heard.result.sof ≡ 160 = search rules in
-    let h = read_most (decoding c.before).args.block.now in
+    let h = read_most c.args.block.now in
     let e = ap (λ (s : Samples). s.count) c.read-heard.ensures in
     omega (arith, n, e, h)
 
@@ -51,17 +48,15 @@ slice_bounds-explain-end-3 c = sym (length-take-le _ _ (fits (goal.at.slice_boun
 
 -- the reasons of what was read
 explain_is : (c : After-explain-r)
-    → let d = decoding c.before.before.before.before.before in let s = d.before.before.before in let r = d.decode-d.result in
-    c.explain-r.result ≡ explained_for (direction_by s.args.h.downlink s.args.block.now) s.args.h.explainer r.acf r.lags r.scale
+    → c.explain-r.result ≡ explained_for (direction_by c.args.h.downlink c.args.block.now) c.args.h.explainer c.decode-d.result.acf c.decode-d.result.lags c.decode-d.result.scale
 unfolding direction_by
 explain_is c =
-    let o = c.before.before.before.before.before in
-    let d = decoding o in
-    let s = d in
-    let r = d.decode-d.result in
+    let h = c.args.h in
+    let r = c.decode-d.result in
+    let s = c.read-heard.result in
     let f : SFits w16 c.decode-d.result.scale = search rules in
-    let e : c.explain-r.result ≡ explained_for (direction_of s.args.h.downlink (take o.read-heard.result.count o.read-heard.result.sof)) s.args.h.explainer r.acf r.lags r.scale = simp zreads at c.explain-r.ensures.value in
-    e ∙ ap (λ (l : List ℤ). explained_for (direction_of s.args.h.downlink l) s.args.h.explainer r.acf r.lags r.scale) (heard s.args.block.now o.read-heard.result o.read-heard.ensures)
+    let e : c.explain-r.result ≡ explained_for (direction_of h.downlink (take s.count s.sof)) h.explainer r.acf r.lags r.scale = simp zreads at c.explain-r.ensures.value in
+    e ∙ ap (λ (l : List ℤ). explained_for (direction_of h.downlink l) h.explainer r.acf r.lags r.scale) (heard c.args.block.now s c.read-heard.ensures)
 
 zero_is : (c : Else-n-ne0) → c.decode-d.result.refusal ≡ 0
 zero_is c = omega arith
@@ -69,10 +64,9 @@ zero_is c = omega arith
 pub returns : goal.returns
 unfolding sent_of
 returns c =
-    let t = c.before in
-    let o = t.before.before.before.before.before in
-    let d = decoding o in
-    let n = ap (λ (x : Decoded). x.refusal) d.decode-d.ensures in
+    let d = c.decode-d.ensures in
+    let h = c.args.h in
+    let n = ap (λ (x : Decoded). x.refusal) d in
     let z = zero_is (goal.at.returns c).Else-n-ne0 in
-    ap (sent_of d.args.h.downlink) (explain_is (goal.at.returns c).After-explain-r ∙ ap (λ (x : Decoded). explained_for (direction_by d.args.h.downlink d.args.block.now) d.args.h.explainer x.acf x.lags x.scale) d.decode-d.ensures)
-    ∙ sym (told_ok d.args.h d.args.block.now d.args.line.now (sym n ∙ z))
+    ap (sent_of h.downlink) (explain_is (goal.at.returns c).After-explain-r ∙ ap (λ (x : Decoded). explained_for (direction_by h.downlink c.args.block.now) h.explainer x.acf x.lags x.scale) d)
+    ∙ sym (told_ok h c.args.block.now c.args.line.now (sym n ∙ z))

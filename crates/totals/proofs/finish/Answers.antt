@@ -14,7 +14,7 @@ use Rattle.totals.proofs.finish.Goals as goal
 use Rattle.totals.proofs.finish.Goals.{After-line-1, Start}
 
 fits : (c : After-line-1) → c.held-k.result ≤ length c.args.n.finder.line
-fits c = let s = c.before.before.before.before in let n : length c.args.n.finder.line ≡ kept = search rules in omega (arith, held_le s.args.n.finder n, c.held-k.ensures)
+fits c = let n : length c.args.n.finder.line ≡ kept = search rules in omega (arith, held_le c.args.n.finder n, c.held-k.ensures)
 
 pub slice_bounds-line-end : goal.slice_bounds-line-end
 slice_bounds-line-end c = fits c

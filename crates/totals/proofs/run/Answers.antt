@@ -1,10 +1,9 @@
 -- `totals::run` goes from line to line. Assumes nothing.
-use borrow.Author.Rules.{rules}
-use Prim.Native.Nat.{◌-◌, ◌<◌, ◌≤◌}
+use Prim.Native.Nat.{◌<◌, ◌≤◌}
 use native.Mathlib.Omega.{arith}
 use lib.ListN.{length}
 use Rattle.pieces.proofs.Runs.{line_in, line_on}
-use Rattle.pieces.proofs.Folds.{Folds, folds_start, folds_line, folds_end}
+use Rattle.pieces.proofs.Folds.{folds_start, folds_line, folds_end}
 use Rattle.totals.specs.Fed.{tallied_of, ran_of}
 use Rattle.totals.proofs.run.Goals as goal
 use Rattle.totals.proofs.run.Goals.{After-line_end-to}

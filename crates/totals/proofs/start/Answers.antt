@@ -1,5 +1,4 @@
 -- `totals::start` has counted nothing. Assumes nothing.
-use borrow.Author.Rules.{rules}
 use Rattle.counts.specs.Counts.{how_many, totals_of}
 use Rattle.totals.specs.Fed.{start_of}
 use Rattle.totals.proofs.start.Goals as goal

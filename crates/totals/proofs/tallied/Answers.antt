@@ -1,5 +1,4 @@
 -- `totals::tallied` answers a line and counts the answer. Assumes nothing.
-use borrow.Author.Rules.{rules}
 use mathlib.Core.Path.{◌≡◌, ap, ◌∙◌}
 use native.Mathlib.Omega.{arith}
 use Rattle.counts.specs.declared.Counted.{Counted}
@@ -10,14 +9,11 @@ use Rattle.runner.specs.Run.{next_of, reply_of}
 use Rattle.totals.specs.declared.Tally.{Tally}
 use Rattle.totals.proofs.Limit.{tallied_no, tallied_yes}
 use Rattle.totals.proofs.tallied.Goals as goal
-use Rattle.totals.proofs.tallied.Goals.{After-count-counted, Else-counted-ne0, Start}
+use Rattle.totals.proofs.tallied.Goals.{After-count-counted, Else-counted-ne0}
 
-abbrev start : After-count-counted → Start
-start c = c.before.before.before.before.before.before
-
-counted : (c : After-count-counted) → c.count-counted.result ≡ count_of (start c).args.t.counted (reply_of (start c).args.t.state (start c).args.line.now)
+counted : (c : After-count-counted) → c.count-counted.result ≡ count_of c.args.t.counted (reply_of c.args.t.state c.args.line.now)
 unfolding reply_of
-counted c = c.count-counted.ensures ∙ ap (λ (x : Said). count_of (start c).args.t.counted x.reply) c.answer-a.ensures
+counted c = c.count-counted.ensures ∙ ap (λ (x : Said). count_of c.args.t.counted x.reply) c.answer-a.ensures
 
 pub returns-then-counted-ne0 : goal.returns-then-counted-ne0
 returns-then-counted-ne0 c = tallied_no _ _ _ (counted (goal.at.returns-then-counted-ne0 c).After-count-counted) c.if-counted-ne0.true

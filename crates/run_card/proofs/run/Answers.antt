@@ -1,0 +1,29 @@
+-- `run_card::run` ends, since the turns are counted down, and writes what `finish` gives. Assumes nothing of its own.
+use borrow.Author.Rules.{rules}
+use mathlib.Core.Path.{◌≡◌, sym, ap, subst}
+use Prim.Native.Nat.{ℕ, ◌≤◌}
+use lib.ListN.{length}
+use lib.Seq.{length-take-le}
+use Rattle.exchange.specs.declared.Last.{Last}
+use Rattle.exchange.proofs.Calls.{finish_fits}
+use Rattle.run_card.proofs.run.Goals as goal
+use Rattle.run_card.proofs.run.Goals.{After-text-1}
+
+pub loop-turns-init : goal.loop-turns-init
+loop-turns-init c = (search rules, search rules)
+
+pub loop-turns-preserved : goal.loop-turns-preserved
+loop-turns-preserved c = (search rules, search rules)
+
+fits : (c : After-text-1) → c.finish-last.result.wrote ≤ length c.finish-last.result.text
+fits c =
+    let n : length c.finish-last.result.text ≡ 4 = search rules in
+    let h = finish_fits _ in
+    let e = ap (λ (l : Last). l.wrote) c.finish-last.ensures in
+    subst (λ (m : ℕ). c.finish-last.result.wrote ≤ m) (sym n) (subst (λ (m : ℕ). m ≤ 4) (sym e) h)
+
+pub slice_bounds-text-end : goal.slice_bounds-text-end
+slice_bounds-text-end c = fits c
+
+pub slice_bounds-write-end : goal.slice_bounds-write-end
+slice_bounds-write-end c = sym (length-take-le _ _ (fits (goal.at.slice_bounds-write-end c).After-text-1))
