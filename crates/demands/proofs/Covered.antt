@@ -1,14 +1,13 @@
 -- In an accepted frame from a valid state no clause meets what was decided where document 01 is silent: specs/Covered.antt, clause by clause.
 -- Assumes nothing.
 use mathlib.Core.Path.{◌≡◌, refl, sym, ap, ◌∙◌, subst}
-use mathlib.Core.Bool.{true, false, true≢false, ◌&&◌}
+use mathlib.Core.Bool.{false, true≢false, ◌&&◌}
 use mathlib.Core.List.{List}
 use mathlib.Core.Logic.{⊎_elim}
 use Prim.Native.Nat.{ℕ, zero, suc, ◌+◌, ◌/◌, ◌≤◌}
 use native.Mathlib.Omega.{arith}
 use lib.Count.{count_leading_zeros, leading_le}
 use lib.IntN.{ℤ, pos, negsuc, ◌+ℤ◌, ◌*ℤ◌}
-use lib.ListN.{set}
 use lib.Signed.{le_z, ◌≤ℤ◌, ◌<ℤ◌}
 use mir.Syntax.{w16, w32}
 use mir.Val.{SFits}

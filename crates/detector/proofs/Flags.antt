@@ -22,7 +22,7 @@ use Rattle.detector.specs.declared.Answer.{Answer}
 use Rattle.detector.specs.Refusal.{refusal_of}
 use Rattle.detector.specs.Step.{spectral_of, accepted_of, refused_of, tone_read, tone_kept, answer_for, step_of}
 use Rattle.detector.specs.Run.{answer_to}
-use Rattle.detector.specs.Directions.{toned, uplinked, AllToneless, answers_from, TonelessRun, NotRead, FlagNotRead, Alike, SamplesLater, Unlearned, NothingLearned}
+use Rattle.detector.specs.Directions.{toned, uplinked, AllToneless, answers_from, TonelessRun, FlagNotRead, Alike, SamplesLater, Unlearned, NothingLearned}
 use Rattle.detector.proofs.Table.{step_accepted, refused_answer, accepted_0, accepted_number}
 
 -- ---- no tone: the flag that is read and the one that is kept are false, as on the uplink

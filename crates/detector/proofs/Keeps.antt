@@ -18,7 +18,7 @@ use Rattle.numbers.proofs.Parts.{zarith, of, sign, le_yes}
 use Rattle.rows.specs.Rows.{all}
 use Rattle.rows.proofs.Choice.{and_left, and_right, either, eqZ_is, eqZ_yes}
 use Rattle.rows.proofs.All.{all_at}
-use Rattle.rows.specs.Choice.{eqZ, within}
+use Rattle.rows.specs.Choice.{eqZ}
 use Rattle.pairs.specs.Pairs.{greater_of}
 use Rattle.energy.specs.Energy.{energy_of}
 use Rattle.energy.specs.declared.Energies.{Energies}

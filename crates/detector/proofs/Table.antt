@@ -9,9 +9,8 @@ use native.Mathlib.Omega.{arith}
 use lib.Dec.{T, eqb}
 use borrow.Author.Tests.{eq-eqb, ne_eqb, eqb-true, eqb-false}
 use lib.IntN.{ℤ, pos}
-use lib.ListN.{length}
 use Rattle.rows.specs.Choice.{IF◌THEN◌ELSE◌}
-use Rattle.rows.proofs.Choice.{and_left, and_right, by_yes, by_no, by_test, either}
+use Rattle.rows.proofs.Choice.{by_yes, by_no, by_test, either}
 use Rattle.pairs.specs.Pairs.{pair}
 use Rattle.frames.proofs.Frame.{frame_digit}
 use Rattle.frames.specs.Frame.{Direction, lengths_ok, samples_ok, scale_ok, acf_ok, lags_ok, frame_refusal_of}

@@ -1,5 +1,5 @@
 -- Frames one after the other: the state that they leave, and the answers to those that are accepted. Assumes nothing.
-use Rattle.std.specs.Prelude.{Bool, List, [], ◌∷◌, map, ℕ, eqb, ℤ}
+use Rattle.std.specs.Prelude.{Bool, List, [], ◌∷◌, map, eqb}
 use Rattle.rows.specs.Choice.{IF◌THEN◌ELSE◌}
 use Rattle.frames.specs.Frame.{Frame}
 use Rattle.state.specs.declared.State.{State}

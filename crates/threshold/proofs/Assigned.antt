@@ -1,7 +1,7 @@
 -- Clause 6.6, of a threshold and a pvad in their ranges: the lowered threshold's mantissa is normalised and loses nothing where it is doubled, and
 -- each long number that is assigned to a short variable fits it. Assumes nothing.
 use mathlib.Core.Path.{◌≡◌, ap}
-use Prim.Native.Nat.{◌*◌, ◌/◌, ◌^◌, ◌<◌, ◌≤◌}
+use Prim.Native.Nat.{◌/◌, ◌^◌, ◌<◌, ◌≤◌}
 use native.Mathlib.Nat.{div-eq_of_lt, lt_of_lt_of_le, mul-le-mul_left, div-add-mod'}
 use lib.IntN.{ℤ, pos, negsuc, ◌*ℤ◌}
 use lib.Pow.{pow_mono, pow_pos}

@@ -1,5 +1,4 @@
 -- `detector::downlink` answers as the definition does, for every input. Assumes nothing.
-use borrow.Author.Rules.{rules}
 use mathlib.Core.Path.{◌≡◌, sym, ap, ap₂, ◌∙◌}
 use mathlib.Core.Bool.{Bool, true}
 use mathlib.Core.List.{List}
@@ -13,7 +12,7 @@ use Rattle.rows.specs.Choice.{IF◌THEN◌ELSE◌}
 use Rattle.rows.proofs.Choice.{by_yes}
 use Rattle.rows.proofs.Fill.{first_whole}
 use Rattle.tone.specs.Tone.{tone_of, flag_of}
-use Rattle.frames.specs.Frame.{down, lengths_ok, samples_ok}
+use Rattle.frames.specs.Frame.{lengths_ok, samples_ok}
 use Rattle.frames.proofs.Frame.{nine, four}
 use Rattle.detector.specs.Refusal.{refusal_of}
 use Rattle.detector.specs.Step.{accepted_of, refused_of, tone_read, tone_kept, answer_for}

@@ -1,5 +1,4 @@
 -- `detector::kept` looks for a tone on the downlink. Assumes nothing.
-use borrow.Author.Rules.{rules}
 use mathlib.Core.Path.{sym, ◌∙◌}
 use Rattle.rows.proofs.Choice.{by_yes, by_no}
 use Rattle.detector.proofs.kept.Goals as goal

@@ -1,5 +1,4 @@
 -- `detector::refusal` looks at the buffers, the samples, the state and the frame, in this order. Assumes nothing.
-use borrow.Author.Rules.{rules}
 use mathlib.Core.Path.{◌≡◌, sym, ap₂, ◌∙◌}
 use mathlib.Core.Bool.{true}
 use mathlib.Core.List.{List}

@@ -1,19 +1,16 @@
 -- `frames::acf_ok` tests the sign of the first number, and then each true magnitude against it, from the front. Assumes nothing.
-use borrow.Author.Rules.{rules}
 use mathlib.Core.Path.{◌≡◌, sym, ◌∙◌}
-use mathlib.Core.Bool.{Bool, true, false}
-use mathlib.Core.List.{List}
-use Prim.Native.Nat.{◌-◌, ◌<◌, ◌≤◌}
+use mathlib.Core.Bool.{true, false}
+use Prim.Native.Nat.{◌<◌, ◌≤◌}
 use native.Mathlib.Omega.{arith}
 use lib.IntN.{ℤ, nat_abs, pos}
-use lib.ListN.{length, drop}
+use lib.ListN.{length}
 use lib.Signed.{lt_z, le_z}
 use mir.Syntax.{w32}
 use mir.Val.{SFits}
 use Rattle.numbers.specs.Sum.{at}
 use Rattle.numbers.proofs.Parts.{zarith, of, sign}
 use Rattle.numbers.proofs.Read.{ranged, zreads}
-use Rattle.rows.specs.Rows.{all}
 use Rattle.rows.proofs.All.{all_yes, all_no, all_end}
 use Rattle.numbers.proofs.Signs.{negative, not_negative}
 use Rattle.frames.specs.Frame.{acf_ok}

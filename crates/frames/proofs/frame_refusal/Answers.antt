@@ -1,5 +1,4 @@
 -- `frames::frame_refusal` makes the frame's own tests in document 01's order, and is left at the first that fails. Assumes nothing.
-use borrow.Author.Rules.{rules}
 use mathlib.Core.Path.{◌≡◌, sym, ◌∙◌}
 use Rattle.numbers.proofs.Read.{zreads}
 use Rattle.rows.specs.Choice.{IF◌THEN◌ELSE◌}

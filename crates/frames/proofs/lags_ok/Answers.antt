@@ -1,10 +1,8 @@
 -- `frames::lags_ok` tests each lag from the front: what is left to test decides. Assumes nothing.
-use borrow.Author.Rules.{rules}
-use mathlib.Core.Path.{◌≡◌, refl, sym, ◌∙◌}
-use Prim.Native.Nat.{◌-◌, ◌<◌, ◌≤◌}
+use mathlib.Core.Path.{refl, sym, ◌∙◌}
+use Prim.Native.Nat.{◌<◌}
 use native.Mathlib.Omega.{arith}
-use lib.ListN.{length, drop}
-use Rattle.rows.specs.Rows.{all}
+use lib.ListN.{length}
 use Rattle.rows.proofs.All.{all_yes, all_no, all_end}
 use Rattle.lags.specs.Lags.{lag_ok}
 use Rattle.rows.proofs.Choice.{not_true, not_false}

@@ -1,5 +1,4 @@
 -- `lags::once` is 1 for a lag that counts. Assumes nothing.
-use borrow.Author.Rules.{rules}
 use mathlib.Core.Path.{sym, ◌∙◌}
 use Rattle.rows.specs.Choice.{IF◌THEN◌ELSE◌}
 use Rattle.lags.specs.Lags.{once_of}

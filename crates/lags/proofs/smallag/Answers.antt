@@ -1,5 +1,4 @@
 -- `lags::smallag` gives the remainder of the larger lag by the smaller; a lag of 0 is never divided by. Assumes nothing.
-use borrow.Author.Rules.{rules}
 use mathlib.Core.Path.{◌≡◌, sym, ap, ap₂, ◌∙◌}
 use Prim.Native.Nat.{ℕ, ◌%◌, max, min}
 use native.Mathlib.Nat.{mod-zero}

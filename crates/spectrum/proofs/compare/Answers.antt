@@ -1,5 +1,4 @@
 -- `spectrum::compare` gives the whole clause, call by call. Assumes nothing.
-use borrow.Author.Rules.{rules}
 use mathlib.Core.Path.{ap, ap₂, ◌∙◌}
 use lib.IntN.{ℤ, pos}
 use lib.Signed.{lt_z}

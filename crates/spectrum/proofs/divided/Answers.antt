@@ -1,5 +1,4 @@
 -- `spectrum::divided` gives the sum over the first entry, call by call. Assumes nothing.
-use borrow.Author.Rules.{rules}
 use mathlib.Core.Path.{◌≡◌, sym, ap, ap₂, ◌∙◌}
 use lib.IntN.{ℤ, pos}
 use mir.Syntax.{w16, w32}

@@ -1,5 +1,4 @@
 -- `spectrum::measured` gives the distance measure from the quotient, call by call. Assumes nothing.
-use borrow.Author.Rules.{rules}
 use mathlib.Core.Path.{ap, ap₂, ◌∙◌}
 use lib.IntN.{ℤ, pos}
 use mir.Syntax.{w16, w32}

@@ -1,5 +1,4 @@
 -- `state::rvad_ok` tests the first coefficient, and the weight of the others against it. Assumes nothing.
-use borrow.Author.Rules.{rules}
 use mathlib.Core.Path.{◌≡◌, sym, ◌∙◌}
 use Prim.Native.Nat.{◌≤◌}
 use native.Mathlib.Omega.{arith}

@@ -1,5 +1,4 @@
 -- `state::sacf_ok` tests the first entry of each of the three frames, and then each entry. Assumes nothing.
-use borrow.Author.Rules.{rules}
 use mathlib.Core.Path.{◌≡◌}
 use mathlib.Core.Bool.{true, false}
 use lib.IntN.{pos}

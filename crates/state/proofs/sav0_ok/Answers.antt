@@ -1,5 +1,4 @@
 -- `state::sav0_ok` tests the first entry of each of the four averages. Assumes nothing.
-use borrow.Author.Rules.{rules}
 use mathlib.Core.Path.{◌≡◌}
 use mathlib.Core.Bool.{true, false}
 use lib.IntN.{pos}

@@ -1,5 +1,4 @@
 -- `threshold::adapted` gives the new threshold. Assumes nothing.
-use borrow.Author.Rules.{rules}
 use mathlib.Core.Path.{◌≡◌, sym, ap, ap₂, ◌∙◌}
 use mathlib.Core.Bool.{true, false}
 use Rattle.rows.proofs.Choice.{by_yes, by_no}

@@ -1,5 +1,4 @@
 -- `threshold::at_most` gives the lesser of two pairs. Assumes nothing.
-use borrow.Author.Rules.{rules}
 use mathlib.Core.Path.{sym, ◌∙◌}
 use Rattle.rows.proofs.Choice.{by_yes, by_no}
 use Rattle.threshold.specs.Threshold.{at_most_of}

@@ -1,5 +1,4 @@
 -- `threshold::fitted` halves a mantissa that has grown past 15 bits. Assumes nothing.
-use borrow.Author.Rules.{rules}
 use mathlib.Core.Path.{◌≡◌, sym, ap, ap₂, ◌∙◌}
 use lib.IntN.{pos}
 use mir.Syntax.{w16, w32}

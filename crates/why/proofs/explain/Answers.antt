@@ -1,6 +1,5 @@
 -- `why::explain` answers as the definition does, for every input. Assumes nothing.
-use borrow.Author.Rules.{rules}
-use mathlib.Core.Path.{◌≡◌, refl, ap, ap₂, ◌∙◌}
+use mathlib.Core.Path.{◌≡◌, refl, ap₂, ◌∙◌}
 use mathlib.Core.Bool.{Bool, true, false, ◌&&◌}
 use mathlib.Core.List.{List}
 use lib.IntN.{ℤ}
@@ -25,5 +24,5 @@ returns c =
     let d = direction_of c.args.downlink c.args.sof.now in
     let e : c.frame-step.result ≡ answer_for d c.args.acf.now c.args.lags.now c.args.scalvad c.args.e.state = simp zreads at c.frame-step.ensures in
     let both = with_number d c.args.e c.args.acf.now c.args.lags.now c.args.scalvad _
-        (c.reasoned.ensures ∙ ap₂ (λ (b : Bool) (a : Answer). reasoned_of b c.args.e a) (read_is c.args.downlink c.args.sof.now c.args.e.state) e) in
+    (c.reasoned.ensures ∙ ap₂ (λ (b : Bool) (a : Answer). reasoned_of b c.args.e a) (read_is c.args.downlink c.args.sof.now c.args.e.state) e) in
     record { value = both.0; why_value = both.1 }

@@ -1,5 +1,4 @@
 -- `why::numbered` gives 7 where no number is left. Assumes nothing.
-use borrow.Author.Rules.{rules}
 use mathlib.Core.Path.{sym, ◌∙◌}
 use native.Mathlib.Omega.{arith}
 use Rattle.why.proofs.Steps.{numbered_refused, numbered_beyond, numbered_within}

@@ -1,5 +1,4 @@
 -- `why::reasoned` explains what is accepted, and says the number of what is not. Assumes nothing.
-use borrow.Author.Rules.{rules}
 use mathlib.Core.Path.{◌≡◌, sym, ap, ◌∙◌}
 use native.Mathlib.Omega.{arith}
 use Rattle.detector.specs.declared.Answer.{Answer}

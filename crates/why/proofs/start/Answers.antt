@@ -1,5 +1,4 @@
 -- `why::start` holds the state after a reset, and no number. Assumes nothing.
-use borrow.Author.Rules.{rules}
 use Rattle.why.specs.Explain.{start_of}
 use Rattle.why.proofs.start.Goals as goal
 

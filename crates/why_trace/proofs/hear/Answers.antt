@@ -1,6 +1,6 @@
 -- `why_trace::hear` asks for no more samples than its buffer holds. Assumes nothing of its own.
 use borrow.Author.Rules.{rules}
-use mathlib.Core.Path.{sym, ap}
+use mathlib.Core.Path.{sym}
 use mathlib.Core.List.{List, ◌++◌}
 use Prim.Native.Nat.{ℕ, ◌*◌, ◌≤◌}
 use native.Mathlib.Omega.{arith}
