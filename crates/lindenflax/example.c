@@ -1,7 +1,7 @@
 /*
  * The library in use: reads lines of 82 bytes from standard input, and writes the refusal number, vad and vvad of each to standard output.
  *
- *     target/example <traces/speech_clean.trace
+ *     crates/lindenflax/out/example <traces/speech_clean.trace
  *
  * lindenflax.h says how it is built, also on another processor than x86-64. It takes 82 bytes at a time, so that after a line of another length it is
  * out of step; the program run_trace looks for line feeds.

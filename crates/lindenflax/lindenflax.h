@@ -7,15 +7,14 @@
  *
  * To build a program with it, here crates/lindenflax/example.c:
  *
- *     rt staticlib lindenflax
- *     cc -I crates/lindenflax -o target/example crates/lindenflax/example.c target/staticlib/liblindenflax.a
- *     target/example <traces/speech_clean.trace
+ *     (cd crates/lindenflax && rt lib)
+ *     cc -I crates/lindenflax -o crates/lindenflax/out/example crates/lindenflax/example.c crates/lindenflax/out/liblindenflax.a
+ *     crates/lindenflax/out/example <traces/speech_clean.trace
  *
- * The library is for x86-64 (System V calls). On another processor, with Debian's gcc-x86-64-linux-gnu and libc6-dev-amd64-cross:
+ * The library is for x86-64 (System V calls), and built there. On another processor, with Debian's gcc-x86-64-linux-gnu and libc6-dev-amd64-cross:
  *
- *     rt staticlib lindenflax
- *     x86_64-linux-gnu-gcc -I crates/lindenflax -o target/example crates/lindenflax/example.c target/staticlib/liblindenflax.a
- *     compare/on_x86_64 target/example <traces/speech_clean.trace
+ *     x86_64-linux-gnu-gcc -I crates/lindenflax -o crates/lindenflax/out/example crates/lindenflax/example.c crates/lindenflax/out/liblindenflax.a
+ *     compare/on_x86_64 crates/lindenflax/out/example <traces/speech_clean.trace
  *
  * Of the C library it needs memset and memcpy at most.
  */

@@ -1,4 +1,4 @@
-//! The functions of lindenflax.h, for Rust: link with `-L target/staticlib -l static=lindenflax`, for x86-64 (`rt staticlib lindenflax` writes the library).
+//! The functions of lindenflax.h, for Rust: link with `-L crates/lindenflax/out -l static=lindenflax`, for x86-64 (`rt lib` in crates/lindenflax writes the library).
 //! lindenflax.h says what each of them does, what the numbers of a state and of an answer are, and what is returned.
 extern "C" {
     pub fn lindenflax_reset(state: *mut i32, state_len: usize) -> u8;

@@ -9,6 +9,8 @@ use Rattle.frames.specs.Frame.{Frame}
 use Rattle.state.specs.declared.State.{State}
 use Rattle.state.specs.Valid.{reset_of}
 use Rattle.card.specs.Card.{Order, call, reset, channel_of, in_bank, state_at, number_only, next_for, said_for, answer_of, bank_after, stepped_of}
+-- looked at first: a definition that is wrong is refused by an instance that comes out otherwise
+use Rattle.card.specs.Instances.{ends}
 
 module _ (bank : List State) (o : Order) where
   pub answer_in : in_bank (length bank) (channel_of o) ≡ true → answer_of bank o ≡ said_for o (state_at bank (channel_of o))

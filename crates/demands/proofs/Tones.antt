@@ -1,6 +1,6 @@
 -- What the theorems on the tone flag suppose is met (crates/detector/specs/Directions.antt): frames of zeros have their samples and no tone in them, as
--- `toneless-run` asks; a frame of 1000 Hz, from reset, leaves the flag set, by `samples_later`; and the frame after it is accepted, so that
--- `nothing_learned` and `not-read` speak of it. Assumes nothing.
+-- `toneless_run` asks; a frame of 1000 Hz, from reset, leaves the flag set, by `samples_later`; and the frame after it is accepted, so that
+-- `nothing_learned` and `not_read` speak of it. Assumes nothing.
 use mathlib.Core.Path.{◌≡◌, refl, ap, ◌∙◌}
 use mathlib.Core.Bool.{Bool, true, false}
 use mathlib.Core.List.{List, [], ◌∷◌}

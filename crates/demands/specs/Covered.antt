@@ -62,7 +62,7 @@ pub record Clause6_2 (scalvad : ℤ) (ptsacf ptsav0 : ℕ) : Type 0 where
   pub sav0_at : inside LAST_SAV0 ptsav0 ≡ ptsav0
 
 -- ---- 6.3.1, and 6.10.3, which is the same for the order 4. The recursion of crates/predictor/specs/Schur.antt with any division in the place of
--- `div`. With `div` it is the clause's: `same-recursion` in proofs/Covered.antt
+-- `div`. With `div` it is the clause's: `same_recursion` in proofs/Covered.antt
 module _ (division : ℤ → ℤ → ℤ) where
   unfoldable pub coefficient_by : ℤ → ℤ → ℤ
   coefficient_by P0 P1 = let q = division (abs P1) P0 in IF lt_z (pos 0) P1 THEN sub (pos 0) q ELSE q

@@ -1,6 +1,6 @@
 -- The three demands on the detector, with the table, the clauses and the distance of document 01. Read this file first. Each record below is one
 -- demand, a statement about an answer and about what each lent buffer holds afterwards. proofs/Meets.antt and proofs/Lines.antt prove it of what
--- the functions promise for every input (their `ensures`): of `answerFor`, which is what `detector::step` answers on the uplink and
+-- the functions promise for every input (their `ensures`): of `answer_for`, which is what `detector::step` answers on the uplink and
 -- `detector::downlink` on the downlink, and of what `lines::read` and `lines::write` answer and leave. That every call ends and that nothing overflows is what the toolchain proves of every function; a buffer that is
 -- lent for reading only is not written by any call. Behind the demands stand document 01's whole case, from bytes to bytes, and that what was decided
 -- where document 01 is silent is never met. Distance, Case and Covered hold what these statements name. Beside this file: Sums (document 01's sums done

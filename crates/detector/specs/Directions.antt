@@ -1,5 +1,5 @@
 -- What the tone flag does in the two directions: it is found in a downlink frame, and acts in 6.6 of the next one, where that goes down too. What stands
--- here is proved in proofs/Flags.antt: `toneless-run`, `not-read`, `samples-later` and `nothing-learned`. Assumes nothing.
+-- here is proved in proofs/Flags.antt: `toneless_run`, `not_read`, `samples_later` and `nothing_learned`. Assumes nothing.
 use Rattle.std.specs.Prelude.{◌≡◌, Bool, true, false, List, [], ◌∷◌, map, ◌⊎◌, ℕ, ℤ, length}
 use Rattle.tone.specs.Tone.{tone_of}
 use Rattle.threshold.specs.Threshold.{PLEV}

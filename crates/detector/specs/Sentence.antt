@@ -1,6 +1,6 @@
 -- The hangover as a sentence about frames one after the other from reset. Of those that are accepted, counted from 0 in their order, vad is 1 at a
 -- frame exactly if vvad is 1 there, or three consecutive raw speech frames ended at one of the five frames before it. A refused frame between them is
--- not counted. `hangover-sentence` in `proofs/Sentence.antt` shows it. Assumes nothing.
+-- not counted. `hangover_sentence` in `proofs/Sentence.antt` shows it. Assumes nothing.
 use Rattle.std.specs.Prelude.{Bool, List, ℕ, ◌<◌, length}
 use Rattle.hangover.specs.Bursts.{by_place}
 use Rattle.hangover.specs.Sentence.{Sentence}

@@ -1,6 +1,6 @@
 -- An all-zero frame: L_ACF[0] is 0, and so are the eight others, since none of an accepted frame is larger. The exit of 6.1 goes on with 6.2: the frame
 -- enters the histories, and 6.2 to 6.4 run as for any other. Its own flags come from the hangover alone, and nothing is learned in it.
--- `silent-frame`, `no-spectrum`, `silence-forgets` and `steady-next` in proofs/Silence.antt prove what stands here. Assumes nothing.
+-- `silent_frame`, `no_spectrum`, `silence_forgets` and `steady_next` in proofs/Silence.antt prove what stands here. Assumes nothing.
 use Rattle.std.specs.Prelude.{◌≡◌, true, false, List, [], ◌∷◌, ℕ, ℤ, pos, length}
 use Rattle.std.specs.Int.Signed.{le_z}
 use Rattle.numbers.specs.Sum.{at}
@@ -41,7 +41,7 @@ module _ (d : Direction) (l_acf : List ℤ) (lags : List ℕ) (scalvad : ℤ) (s
   abbrev compared : Compared
   compared = compare_of av0 filter.rav1 filter.normrav1 s.lastdm
 
-  -- the answer with anything in the place of what 6.2 to 6.4 find: where `spectralOf` stands in `acceptedOf`
+  -- the answer with anything in the place of what 6.2 to 6.4 find: where `spectral_of` stands in `accepted_of`
   abbrev answer_by : Middle → Answer
   answer_by = answered_of (tone_read d s) (tone_kept d) lags s (energy_of l_acf scalvad s.rvad s.normrvad)
 

@@ -1,5 +1,5 @@
 -- What is read of a line before its channel's state is taken out of the bank, and what is made of that state: the two steps of a line, as the code has
--- them. `line-steps` in `proofs/Steps.antt` shows that together they are `replyOf` and `next_of` of Run.antt. No public promise
+-- them. `line_steps` in `proofs/Steps.antt` shows that together they are `reply_of` and `next_of` of Run.antt. No public promise
 -- names them. Assumes nothing.
 use Rattle.std.specs.Prelude.{Bool, false, not, List, ℕ, eqb, pos, replicate, drop}
 use Rattle.rows.specs.Choice.{IF◌THEN◌ELSE◌}

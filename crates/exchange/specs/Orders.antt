@@ -1,4 +1,4 @@
--- What is asked of a card's run. `run-asked` in `proofs/Orders.antt` shows it. Assumes nothing.
+-- What is asked of a card's run. `run_asked` in `proofs/Orders.antt` shows it. Assumes nothing.
 use Rattle.std.specs.Prelude.{◌≡◌, true, false, ◌&&◌, List, [], ◌∷◌, ◌++◌, ℕ, ◌<◌, ◌≤◌, eqb, length, drop}
 use Rattle.rows.specs.Choice.{IF◌THEN◌ELSE◌}
 use Rattle.state.specs.declared.State.{State}

@@ -1,4 +1,4 @@
--- A frame as it is lent, and what document 01 refuses of a frame by itself: 1, 8, and 2, 3, 4 in this order. The state comes in between: `refusalOf` in
+-- A frame as it is lent, and what document 01 refuses of a frame by itself: 1, 8, and 2, 3, 4 in this order. The state comes in between: `refusal_of` in
 -- `detector/specs/Refusal.antt` is the whole table. Assumes nothing.
 use Rattle.std.specs.Prelude.{Bool, true, false, ◌&&◌, List, ℕ, eqb, ℤ, nat_abs, pos, length}
 use Rattle.std.specs.Int.Signed.{le_z}

@@ -1,5 +1,5 @@
 -- The frames of a trace on the uplink: those of its lines that are not refused as they are read. What is answered to its lines is what is answered to these frames:
--- `replies-frames` in `runner/proofs/Sentence.antt`, `line-explained` in `teller/proofs/Frames.antt`. Assumes nothing.
+-- `replies_frames` in `runner/proofs/Sentence.antt`, `line_explained` in `teller/proofs/Frames.antt`. Assumes nothing.
 use Rattle.std.specs.Prelude.{ℕ, List, [], ◌∷◌, nat_eq}
 use Rattle.rows.specs.Choice.{IF◌THEN◌ELSE◌}
 use Rattle.frames.specs.Frame.{up, Frame}

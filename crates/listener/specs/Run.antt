@@ -1,7 +1,7 @@
 -- The meaning of a run on the downlink: from the bytes of a whole trace and of all its samples to the bytes of the output. Each line of the trace is
 -- answered, one after the other, whatever its length, and takes a frame's 320 bytes of the samples, a refused line too; the detector starts as reset
 -- leaves it. Where the samples end before the trace, the lines that lack some are refused with 8, unless they are refused as they are read. A line cut by
--- the end of the trace is a line too, and malformed, `600` and the flag kept: it has no line feed. `replies_of` is the list of the answers, and `run-text`
+-- the end of the trace is a line too, and malformed, `600` and the flag kept: it has no line feed. `replies_of` is the list of the answers, and `run_text`
 -- in `proofs/Replies.antt` shows that a run writes this list's text. Assumes nothing.
 use Rattle.std.specs.Prelude.{List, [], ◌∷◌, ◌++◌, ℕ}
 use Rattle.state.specs.declared.State.{State}

@@ -1,5 +1,5 @@
 -- A trace of document 01's first row, with an empty line in its burst and a line with a lag of 0 in its hangover: the accepted lines are answered as
--- if the others were not there. So `trace-sentence` speaks of something. Assumes nothing.
+-- if the others were not there. So `trace_sentence` speaks of something. Assumes nothing.
 use mathlib.Core.Path.{◌≡◌, refl, ap, ◌∙◌}
 use mathlib.Core.Bool.{Bool}
 use mathlib.Core.List.{List, [], ◌∷◌, ◌++◌, map, map-map}

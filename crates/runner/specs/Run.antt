@@ -1,6 +1,6 @@
 -- The meaning of a run: from the bytes of the whole input to the bytes of the output. Each line of the input is answered, one after the other,
 -- whatever its length; the detector starts as reset leaves it. A line cut by the end of the input is a line too, and malformed, `600`: it has no
--- line feed. Nothing in is nothing out. `replies_of` is the list of the answers, and `run-text` in `proofs/Replies.antt` shows that a run writes
+-- line feed. Nothing in is nothing out. `replies_of` is the list of the answers, and `run_text` in `proofs/Replies.antt` shows that a run writes
 -- this list's text. Assumes nothing.
 use Rattle.std.specs.Prelude.{List, [], ◌∷◌, ◌++◌, ℕ}
 use Rattle.counts.specs.declared.Reply.{Reply}

@@ -1,6 +1,6 @@
 -- The hangover as a sentence about a trace. Of the answers that are accepted, those whose text begins with 0, counted from 0 in their order: vad is 1
 -- in one of them exactly if vvad is 1 there, or three consecutive ones with vvad 1 ended at one of the five before it. And refused lines change
--- nothing: the trace without them is given just these answers. `trace-sentence` in `proofs/Sentence.antt` shows it. Assumes nothing.
+-- nothing: the trace without them is given just these answers. `trace_sentence` in `proofs/Sentence.antt` shows it. Assumes nothing.
 use Rattle.std.specs.Prelude.{◌≡◌, Bool, List, [], ◌∷◌, map, ℕ, ◌<◌, eqb, length}
 use Rattle.rows.specs.Choice.{IF◌THEN◌ELSE◌}
 use Rattle.hangover.specs.Bursts.{by_place}

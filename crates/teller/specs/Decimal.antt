@@ -1,5 +1,5 @@
 -- A number in decimal, without leading zeros: its last digit is the remainder by ten, and the digits before it are those of the quotient. A number of
--- 32 bits has at most ten digits. Characters are their ASCII codes: 48..57 are 0..9. `decimal-reads`, `decimal-first` and `decimal-digits` in
+-- 32 bits has at most ten digits. Characters are their ASCII codes: 48..57 are 0..9. `decimal_reads`, `decimal_first` and `decimal_digits` in
 -- `proofs/Decimal.antt` show that the digits read as the number, begin with no zero, and are digits all. Assumes nothing.
 use Rattle.std.specs.Prelude.{List, [], ◌∷◌, ◌++◌, ℕ, zero, suc, ◌+◌, ◌-◌, ◌*◌, ◌/◌, ◌%◌, ltb}
 use Rattle.rows.specs.Choice.{IF◌THEN◌ELSE◌}

@@ -1,5 +1,5 @@
 -- The frames of a trace beside its samples: those of its lines that are not refused as they are read. What is told of its lines is what is asked of these
--- frames: `line-explained` in `proofs/Frames.antt`. Assumes nothing.
+-- frames: `line_explained` in `proofs/Frames.antt`. Assumes nothing.
 use Rattle.std.specs.Prelude.{Bool, List, [], ◌∷◌, ℕ, eqb, drop}
 use Rattle.rows.specs.Choice.{IF◌THEN◌ELSE◌}
 use Rattle.frames.specs.Frame.{Frame}

@@ -1,5 +1,5 @@
 -- A night whose trace comes in pieces: the answers are counted one after the other, and what is unfinished is carried from piece to piece. Once a
--- line is refused with 7, the totals and the detector stay. `called` in `proofs/Calls.antt` shows that the end gives `nightOf` of the whole trace, however
+-- line is refused with 7, the totals and the detector stay. `called` in `proofs/Calls.antt` shows that the end gives `night_of` of the whole trace, however
 -- it is cut. Assumes nothing.
 use Rattle.std.specs.Prelude.{List, [], ◌∷◌, ℕ, eqb}
 use Rattle.rows.specs.Choice.{IF◌THEN◌ELSE◌}

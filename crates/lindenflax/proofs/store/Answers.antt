@@ -1,5 +1,6 @@
 -- `lindenflax::store` leaves what is lent where the number is not 0, and else stores the next state and the answer. Assumes nothing.
 use mathlib.Core.Path.{refl, sym, ◌∙◌}
+use native.Mathlib.Omega.{arith}
 use borrow.Author.Tests.{eq-eqb, ne_eqb}
 use Rattle.rows.specs.Choice.{IF◌THEN◌ELSE◌}
 use Rattle.lindenflax.specs.Run.{answer_of, run_after, answer_after}
@@ -7,7 +8,7 @@ use Rattle.lindenflax.proofs.store.Goals as goal
 
 pub returns-then-number-ne0 : goal.returns-then-number-ne0
 unfolding run_after answer_after IF◌THEN◌ELSE◌
-returns-then-number-ne0 c = let t = ne_eqb _ 0 c.if-number-ne0.true in record { value = refl; state_after = rw t; answer_after = rw t }
+returns-then-number-ne0 c = let t = ne_eqb c.args.a.refusal 0 (omega arith) in record { value = refl; state_after = rw t; answer_after = rw t }
 
 pub packed-requires : goal.packed-requires
 packed-requires c = c.requires.2 c.if-number-ne0.false

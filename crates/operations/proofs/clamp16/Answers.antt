@@ -14,4 +14,4 @@ pub overflow_cast-result : goal.overflow_cast-result
 overflow_cast-result c = let s = c.before.if-x-gt32767.false in let t = c.if-x-ltminus32768.false in omega zarith
 
 pub returns : goal.returns
-returns c = code_in w32 w16 c.before.before.ranges.x (overflow_cast-result c)
+returns c = let s = c.before.if-x-gt32767.false in let t = c.if-x-ltminus32768.false in code_in w32 w16 c.before.before.ranges.x (omega zarith)

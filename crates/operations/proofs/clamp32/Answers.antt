@@ -14,4 +14,4 @@ pub overflow_cast-result : goal.overflow_cast-result
 overflow_cast-result c = let s = c.before.if-x-gt2147483647.false in let t = c.if-x-ltminus2147483648.false in omega zarith
 
 pub returns : goal.returns
-returns c = code_in w64 w32 c.before.before.ranges.x (overflow_cast-result c)
+returns c = let s = c.before.if-x-gt2147483647.false in let t = c.if-x-ltminus2147483648.false in code_in w64 w32 c.before.before.ranges.x (omega zarith)

@@ -5,14 +5,13 @@ use Prim.Native.Nat.{zero, suc}
 use lib.IntN.{ℤ, nat_abs, pos, negsuc, neg_ℤ, ◌-ℤ◌, ◌*ℤ◌}
 use lib.Signed.{lt_z, shr_z, ◌<ℤ◌}
 use mir.Syntax.{w16, w32}
-use mir.Val.{SFits}
+use mir.Val.{SFits, to_z, of_z}
 use mir.Facts.{sfits_lit}
 use Rattle.numbers.proofs.Parts.{zarith, neg, minus, times, of}
 use Rattle.numbers.proofs.Read.{back, same_bits, other_bits, cast_need, zreads}
 use Rattle.operations.specs.Operations.{over, div}
 use Rattle.operations.proofs.Wide.{clamped}
 use Rattle.operations.proofs.div.Goals as goal
-use Rattle.operations.proofs.div.Goals.{Else-y-lt0}
 
 -- ---- over plain numbers
 scaled : {x : ℤ} → SFits w16 x → SFits w32 (x *ℤ pos 32768)
@@ -47,7 +46,11 @@ over_above n (pos zero) h = absurd (omega zarith)
 over_above n (pos (suc k)) h = refl
 over_above n (negsuc k) h = absurd (omega zarith)
 
--- ---- the needs
+-- y is not 0 and not below it, as the code tests it
+above : {y : ℤ} → SFits w16 y → (of_z w16 y ≡ 0 → ⊥) → lt_z (to_z w16 (of_z w16 y)) (pos 0) ≡ false → pos 0 <ℤ y
+above {y} f n t = positive y (other_bits w16 n) (simp zreads at t)
+
+-- ---- the goals
 pub overflow_cast-n : goal.overflow_cast-n
 overflow_cast-n c = cast_need w16 w32 tt c.ranges.x
 
@@ -102,14 +105,8 @@ returns-then-y-lt0 c =
 pub overflow_cast-y-2 : goal.overflow_cast-y-2
 overflow_cast-y-2 c = cast_need w16 w32 tt c.before.before.ranges.y
 
--- y is not 0 and not below it
-above : (c : Else-y-lt0) → pos 0 <ℤ c.before.before.args.y
-above c =
-    let f = c.before.before.ranges.y in
-    positive c.before.before.args.y (other_bits w16 c.before.if-y-eq0.false) (simp zreads at c.if-y-lt0.false)
-
 pub floor_over-requires-2 : goal.floor_over-requires-2
-floor_over-requires-2 c = let f = c.before.before.ranges.y in simp zreads (above c)
+floor_over-requires-2 c = let f = c.ranges.y in simp zreads (above f c.if-y-eq0.false c.if-y-lt0.false)
 
 pub returns : goal.returns
 unfolding div
@@ -120,4 +117,4 @@ returns c =
     let g = scaled f in
     let i = s.ranges.y in
     let e = simp zreads at b.floor_over-2.ensures in
-    clamped w16 c.clamp16-2.type_inv c.clamp16-2.ensures (back w32 b.floor_over-2.type_inv ∙ e ∙ over_above (s.args.x *ℤ pos 32768) s.args.y (above b.before))
+    clamped w16 c.clamp16-2.type_inv c.clamp16-2.ensures (back w32 b.floor_over-2.type_inv ∙ e ∙ over_above (s.args.x *ℤ pos 32768) s.args.y (above i c.if-y-eq0.false c.if-y-lt0.false))

@@ -65,7 +65,7 @@ module _ (x d : ℤ) (f : SFits w32 x) (h : pos 0 <ℤ d) where
     over_floor : quot_z x d ≡ shr_z x (nat_abs d)
     over_floor = over_is ∙ sym (ap (λ (z : ℤ). shr_z z (nat_abs d)) (not_negative x t))
 
--- ---- the needs
+-- ---- the goals
 pub overflow_sub-result : goal.overflow_sub-result
 overflow_sub-result c = let f = c.before.ranges.x in simp zreads (flip_fits f)
 

@@ -20,7 +20,7 @@ as_unsigned {x} f t = let z = pos 0 -ℤ x in (omega (zarith, minus (pos 0) x), 
 same_magnitude : (x : ℤ) → nat_abs (pos 0 -ℤ x) ≡ nat_abs x
 same_magnitude x = omega (zarith, of (pos 0 -ℤ x), sign (pos 0 -ℤ x), of x, sign x, minus (pos 0) x)
 
--- ---- the needs
+-- ---- the goals
 pub overflow_cast-result : goal.overflow_cast-result
 overflow_cast-result c = cast_need w32 w64 tt c.before.ranges.x
 

@@ -47,7 +47,7 @@ some_left z f h = by z h ∙ ap pos (sym (moved_zeros 31 (nat_abs z) (up (nat_ab
     by (pos (suc n)) h = refl
     by (negsuc n) h = refl
 
--- ---- the needs
+-- ---- the goals
 is : (c : After-magnitude-m) → up c.magnitude-m.result ≡ up (nat_abs c.before.args.x)
 is c = ap (λ (a : ℕ). up a) (c.magnitude-m.ensures ∙ ap nat_abs (to_z-of_z c.before.ranges.x))
 

@@ -19,7 +19,7 @@ use Rattle.predictor.proofs.StepUp.{held, made_more, order_start, order_end}
 use Rattle.predictor.proofs.raised.Goals as goal
 use Rattle.predictor.proofs.raised.Goals.{In-loop-i, Start}
 
--- the numbers of the needs, apart from the places
+-- the numbers of the goals, apart from the places
 index_fits : (k : ℕ) → k < 17 → Fits w64 k
 index_fits k h = Fits-below {n = 17} tt (omega arith)
 

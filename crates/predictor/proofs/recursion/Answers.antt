@@ -80,7 +80,7 @@ module _ (c : After-turned-in-loop-m-2) where
       back w16 c.turned-in-loop-m-2.type_inv
       ∙ (c.turned-in-loop-m-2.ensures ∙ ap₂ (λ (a b : ℤ). turned_of a b (v (inner c.before).before)) (back w16 c.y-1.given) (back w16 c.x-1.given))
 
--- the numbers of the needs, apart from the places
+-- the numbers of the goals, apart from the places
 next_fits : (n : ℕ) → n < 9 → Fits w64 (n + 1)
 next_fits n h = Fits-below {n = 9} tt (omega arith)
 
