@@ -197,5 +197,5 @@ module _ (d : Direction) (l_acf : List ℤ) (lags : List ℕ) (scalvad : ℤ) (s
     pub c_6_9 : Clause6_9 s.oldlag lags
     -- on the downlink, of its samples
     pub c_6_10 : (sof : List ℤ) → d ≡ down sof → Clause6_10 sof
-    -- an all_zero frame: 6.1 exits at once, and 6.6 stops at the level
+    -- an all-zero frame: 6.1 exits at once, and 6.6 stops at the level
     pub all_zero : at l_acf 0 ≡ pos 0 → greater_of PTH energies.acf0 ≡ true

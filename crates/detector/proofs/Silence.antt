@@ -1,4 +1,4 @@
--- An all_zero frame from a valid state is answered as specs/Silence.antt says, averages that begin with 0 have no spectrum, eight frames of silence leave
+-- An all-zero frame from a valid state is answered as specs/Silence.antt says, averages that begin with 0 have no spectrum, eight frames of silence leave
 -- nothing of a sound in what 6.2 to 6.4 keep, and the frame after them counts as steady. Assumes nothing.
 use mathlib.Core.Path.{◌≡◌, refl, sym, ap, ap₂, subst, ◌∙◌}
 use mathlib.Core.Bool.{Bool, true, false}
@@ -137,7 +137,7 @@ module _ (d : Direction) (l_acf : List ℤ) (lags : List ℕ) (scalvad : ℤ) (s
         any_reading = λ m. (vvad_is ∙ sym (raw _ m.stat _ m.rav1 m.normrav1), vad_is ∙ sym (sent _ m.stat _ m.rav1 m.normrav1));
       }
 
--- the flags of an all_zero frame are the hangover's alone, and the frame enters the histories
+-- the flags of an all-zero frame are the hangover's alone, and the frame enters the histories
 pub silent_frame : SilentFrames
 silent_frame = whole
 
@@ -153,7 +153,7 @@ no_spectrum l_av z =
     let none : vpar_of l_av ≡ zeros = by_yes _ _ (eqZ_yes z) in
     record { vpar = none; filter = ap (λ (v : List ℤ). whitened_of (row 9 (aav1_of v))) none ∙ flat; sav0 = λ i. by_yes _ _ (eqZ_yes z) }
 
--- ---- silence that lasts: what 6.2 to 6.4 keep, and what an all_zero frame makes of it
+-- ---- silence that lasts: what 6.2 to 6.4 keep, and what an all-zero frame makes of it
 record Held : Type 0 where
   sacf : List ℤ
   ptsacf : ℕ

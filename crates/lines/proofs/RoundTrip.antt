@@ -85,7 +85,7 @@ lag : (l : List ℕ) → formed_of l ≡ true → (i : ℕ) → i < 4 → digits
 unfolding field_at
 lag l e i h = rw (drop-drop (2 * i) 73 l) (part_digits l e (73 + 2 * i) 2 (omega arith))
 
--- a well_formed line, read and written again, is the same bytes
+-- a well-formed line, read and written again, is the same bytes
 pub same_bytes : (l : List ℕ) → formed_of l ≡ true → line_of (frame_of l) ≡ l
 unfolding line_of frame_of word_at field_at
 same_bytes l e =

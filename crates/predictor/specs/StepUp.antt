@@ -6,7 +6,7 @@ use Rattle.rows.specs.Choice.{IF◌THEN◌ELSE◌}
 use Rattle.rows.specs.Rows.{row}
 
 -- the entry i after the order m, from the entries before it, which is what the clause's L_work is for:
--- `FOR i = 1 to m_1: temp = L_coef[m-i] >> 16; L_work[i] = L_add( L_coef[i], L_mult( vpar[m], temp ) )`, `L_coef[m] = vpar[m] << 14`
+-- `FOR i = 1 to m-1: temp = L_coef[m-i] >> 16; L_work[i] = L_add( L_coef[i], L_mult( vpar[m], temp ) )`, `L_coef[m] = vpar[m] << 14`
 unfoldable pub raised_of : List ℤ → ℤ → ℕ → ℕ → ℤ
 raised_of l_coef vpar_m m i =
     IF eqb i m THEN vpar_m << pos 14 ELSE
