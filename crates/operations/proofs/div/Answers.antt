@@ -72,18 +72,17 @@ returns c =
     let is : c.from.result ≡ over (x *ℤ pos 32768) y =
     elim c.if-y-eq0.branch [
       | then-y-eq0 w ↦
-          let q = rw n at w.quotient-is in
-          c.from.ensures ∙ (simp zreads at q) ∙ over_zero (x *ℤ pos 32768) y (same_bits w16 i (sfits_lit tt) w.if-y-eq0.true)
+          c.from.ensures ∙ (simp (n, zreads) at w.quotient-is) ∙ over_zero (x *ℤ pos 32768) y (same_bits w16 i (sfits_lit tt) w.if-y-eq0.true)
       | else-y-eq0+then-y-lt0 w ↦
           let h = unscaled f in
           let j = negated i in
           let t = simp zreads at w.if-y-lt0.true in
           let p : pos 0 <ℤ (pos 0 -ℤ y) = omega (zarith, minus (pos 0) y) in
-          let e = rw (n, d) at w.div_euclid.ensures in
-          c.from.ensures ∙ w.quotient-is ∙ back w32 w.div_euclid.type_inv ∙ (simp zreads at e) ∙ euclid (pos 0 -ℤ x *ℤ pos 32768) (pos 0 -ℤ y) p ∙ over_below (x *ℤ pos 32768) y t
+          let e : w.div_euclid.result ≡ int_div_euclid (pos 0 -ℤ x *ℤ pos 32768) (pos 0 -ℤ y) = simp (n, d, zreads) at w.div_euclid.ensures in
+          c.from.ensures ∙ w.quotient-is ∙ back w32 w.div_euclid.type_inv ∙ e ∙ euclid (pos 0 -ℤ x *ℤ pos 32768) (pos 0 -ℤ y) p ∙ over_below (x *ℤ pos 32768) y t
       | else-y-eq0+else-y-lt0 w ↦
           let p = above i w.if-y-eq0.false w.if-y-lt0.false in
-          let e = rw (n, d) at w.div_euclid-else-y-lt0.ensures in
-          c.from.ensures ∙ w.quotient-is ∙ back w32 w.div_euclid-else-y-lt0.type_inv ∙ (simp zreads at e) ∙ euclid (x *ℤ pos 32768) y p ∙ over_above (x *ℤ pos 32768) y p
+          let e : w.div_euclid-else-y-lt0.result ≡ int_div_euclid (x *ℤ pos 32768) y = simp (n, d, zreads) at w.div_euclid-else-y-lt0.ensures in
+          c.from.ensures ∙ w.quotient-is ∙ back w32 w.div_euclid-else-y-lt0.type_inv ∙ e ∙ euclid (x *ℤ pos 32768) y p ∙ over_above (x *ℤ pos 32768) y p
     ] in
     clamped w16 c.nearest.type_inv c.nearest.ensures (back w64 c.from.type_inv ∙ is)
