@@ -2,32 +2,19 @@
 use mathlib.Core.Path.{◌≡◌, ap, ◌∙◌}
 use native.Mathlib.Omega.{arith}
 use lib.IntN.{ℤ, pos}
+use lib.Signed.{shr_z}
 use mir.Syntax.{w32}
-use mir.Val.{SFits}
+use mir.Facts.{to_z-of_z}
 use Rattle.numbers.proofs.Read.{ranged, zreads}
-use Rattle.operations.specs.Operations.{◌<<◌, ◌>>◌}
-use Rattle.operations.proofs.Top.{top_need, top_back}
+use Rattle.operations.specs.Operations.{shift_right, ◌<<◌, ◌>>◌}
+use Rattle.operations.proofs.Top.{top_back}
 use Rattle.operations.proofs.topped.Goals as goal
-use Rattle.operations.proofs.topped.Goals.{After-l_shr, Start}
-
-module _ (c : After-l_shr) where
-  abbrev s : Start
-  s = c.before.before
-
-  up_is : c.before.l_shl.result ≡ s.args.x << s.args.n
-  up_is =
-      let f = s.ranges.x in
-      let g = s.ranges.n in
-      simp zreads at c.before.l_shl.ensures
-
-  up_fits : SFits w32 c.before.l_shl.result
-  up_fits = ranged w32 c.before.l_shl.result c.before.l_shl.type_inv
-
-  out_is : c.l_shr.result ≡ c.before.l_shl.result >> pos 16
-  out_is = let f = up_fits in simp zreads at c.l_shr.ensures
-
-pub overflow_cast-result : goal.overflow_cast-result
-overflow_cast-result c = top_need c.before.l_shl.result 16 (omega arith) (up_fits c) (out_is c)
 
 pub returns : goal.returns
-returns c = top_back c.before.l_shl.result 16 (omega arith) (up_fits c) (out_is c) ∙ ap (λ (x : ℤ). x >> pos 16) (up_is c)
+unfolding shift_right
+returns c =
+    let f = c.ranges.x in
+    let g = c.ranges.n in
+    let h = ranged w32 c.l_shl.result c.l_shl.type_inv in
+    let is : c.l_shl.result ≡ c.args.x << c.args.n = simp zreads at c.l_shl.ensures in
+    top_back c.l_shl.result 16 (omega arith) h (ap (λ (z : ℤ). shr_z z 65536) (to_z-of_z h)) ∙ ap (λ (x : ℤ). x >> pos 16) is
