@@ -83,9 +83,9 @@ fn av0(sacf: [i32; 27], frame: [i32; 9]) -> [i32; 9]
 }
 
 // The sum of four frames before.
-fn av1(sav0: [i32; 36], pt: usize) -> [i32; 9]
+fn av1(sav0: &[i32; 36], pt: usize) -> [i32; 9]
     requires { pt ≤ clause.LAST_SAV0 }
-    ensures { result ≡ row 9 (clause.l_av1_of sav0 pt) }
+    ensures { result ≡ row 9 (clause.l_av1_of sav0.now pt) }
 {
     std::array::from_fn(|i| sav0[pt + i])
 }
@@ -113,7 +113,7 @@ pub fn average(
     let q = inside(LAST_SAV0, ptsav0);
     let frame = scaled(acf, scalvad);
     let new = av0(sacf, frame);
-    let old = av1(sav0, q);
+    let old = av1(&sav0, q);
     store(&mut sacf, p, frame);
     store(&mut sav0, q, new);
     Averages {
