@@ -2,7 +2,7 @@
 #![tactic(auto)]
 
 ghost use Rattle.std.specs.Prelude.{◌≡◌, ◌≤◌};
-ghost use Rattle.refusals.specs.Refusal.{number_of};
+ghost use Rattle.refusals.specs.Refusal.{number_of, number_in};
 ghost use Rattle.refusals.specs.declared.Refusal.{Refusal};
 
 // Why: a lent buffer has the wrong length; the scale is none; the autocorrelations are none; a lag is none; the state is not valid; the line is
@@ -28,5 +28,15 @@ impl Refusal {
         ensures own { (other : Refusal) → number_of other ≡ result → other ≡ self }
     {
         self as u8
+    }
+}
+
+// The number of a check's finding, for whoever answers by numbers: 0 where nothing is refused.
+pub fn number_in(found: Result<(), Refusal>) -> u8
+    ensures { result ≡ number_in found }
+{
+    match found {
+        Ok(()) => 0,
+        Err(refusal) => refusal.number(),
     }
 }
