@@ -1,6 +1,6 @@
 -- What a caller of `start`, `feed` and `finish` gets, by their promises alone, is what the run of the whole input writes, however the input is
 -- cut. Assumes nothing.
-use mathlib.Core.Path.{◌≡◌, refl, sym, ap, ◌∙◌}
+use mathlib.Core.Path.{◌≡◌, refl, sym, ◌∙◌}
 use mathlib.Core.List.{List, []}
 use Prim.Native.Nat.{ℕ, ◌≤◌}
 use native.Mathlib.Omega.{arith}

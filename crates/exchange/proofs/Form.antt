@@ -1,19 +1,17 @@
 -- The form of a line: one that the end of the input cuts is malformed; and its first two characters. Assumes nothing.
-use mathlib.Core.Path.{◌≡◌, refl, sym, ap, ◌∙◌}
+use mathlib.Core.Path.{◌≡◌, refl, ap, ◌∙◌}
 use mathlib.Core.Bool.{Bool, true, false, ◌&&◌, ◌||◌}
 use mathlib.Core.List.{List, [], ◌∷◌}
-use Prim.Native.Nat.{ℕ, suc, ◌+◌, ◌*◌, ◌<◌, ◌≤◌}
+use Prim.Native.Nat.{ℕ, ◌+◌, ◌*◌, ◌<◌, ◌≤◌}
 use native.Mathlib.Omega.{arith}
-use borrow.Author.Tests.{eqb-true, leb-true, leb-false, lt-ltb, le-ltb}
-use lib.Dec.{eqb, leb, ltb}
-use lib.ListN.{length, take, drop, get_or, length-take, length-drop}
-use lib.Seq.{take_all, get_or-drop}
+use borrow.Author.Tests.{lt-ltb, le-ltb}
+use lib.Dec.{ltb}
+use lib.ListN.{length, take, drop, get_or}
 use Rattle.rows.specs.Rows.{all}
-use Rattle.rows.proofs.Choice.{either, and_left, and_right, by_yes, by_no}
+use Rattle.rows.proofs.Choice.{either, by_yes, by_no}
 use Rattle.lines.specs.Hex.{value_of, hex_of, number_from, number_of}
 use Rattle.lines.specs.Answers.{parsed_of}
-use Rattle.lines.proofs.Fields.{formed}
-use Rattle.pieces.specs.Lines.{plain_of, short, kept}
+use Rattle.pieces.specs.Lines.{plain_of}
 use Rattle.pieces.proofs.Found.{plain_at}
 use Rattle.exchange.specs.Line.{channel_in, calls_of, resets_of, orderly}
 use Rattle.exchange.specs.Laws.{orderly_end}

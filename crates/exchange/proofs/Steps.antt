@@ -3,7 +3,7 @@
 use mathlib.Core.Path.{◌≡◌, refl, sym, ap, subst, ◌∙◌}
 use mathlib.Core.Bool.{Bool, true, false, not}
 use mathlib.Core.List.{List, [], ◌∷◌}
-use Prim.Native.Nat.{ℕ, zero, suc, ◌<◌, ◌≤◌}
+use Prim.Native.Nat.{ℕ, zero, suc, ◌<◌}
 use native.Mathlib.Omega.{arith}
 use borrow.Author.Tests.{ne_eqb}
 use lib.Dec.{T as Holds}
@@ -18,10 +18,9 @@ use Rattle.lines.proofs.Answers.{parsed_formed}
 use Rattle.state.specs.declared.State.{State}
 use Rattle.state.specs.Valid.{reset_of}
 use Rattle.detector.specs.Run.{answer_to}
-use Rattle.pieces.specs.Lines.{plain_of, short}
+use Rattle.pieces.specs.Lines.{plain_of}
 use Rattle.runner.specs.declared.Said.{Said}
 use Rattle.runner.specs.Said.{stepped_of, denied_of, text_of}
-use Rattle.runner.proofs.Steps.{text_four}
 use Rattle.card.specs.Card.{Order, call, reset, channel_of, in_bank, called_of, number_only, answer_of, bank_after}
 use Rattle.card.specs.Card as card
 use Rattle.card.proofs.Orders.{answer_out, bank_out, call_answer, call_bank, reset_answer, reset_bank}

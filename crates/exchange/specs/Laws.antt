@@ -1,18 +1,16 @@
 -- What a hearer of lines must be shown to keep, of a card's bank: an answer has four bytes; and by what a well-formed line ends with, its first 85 bytes
 -- are enough. Assumes nothing.
-use Rattle.std.specs.Prelude.{◌≡◌, refl, Bool, true, false, ◌&&◌, ◌||◌, List, [], ◌∷◌, ℕ, suc, ◌+◌, ◌*◌, ◌<◌, ◌≤◌, eqb, leb, ltb, length, take, drop, get_or}
+use Rattle.std.specs.Prelude.{◌≡◌, refl, Bool, true, false, ◌||◌, List, ℕ, suc, ◌<◌, ◌≤◌, eqb, leb, length, take, drop, get_or}
 use Rattle.std.proofs.Common.{sym, ap, ◌∙◌, arith}
 use borrow.Author.Tests.{eqb-true, leb-true, leb-false}
 use lib.ListN.{length-take, length-drop}
 use lib.Seq.{take_all, get_or-drop}
 use Rattle.rows.specs.Rows.{all}
-use Rattle.rows.specs.Choice.{IF◌THEN◌ELSE◌}
 use Rattle.rows.proofs.Choice.{either, and_left, and_right, by_no}
 use Rattle.lines.specs.Hex.{hex_of}
 use Rattle.lines.proofs.Fields.{formed}
 use Rattle.pieces.specs.Lines.{short, kept}
 use Rattle.state.specs.declared.State.{State}
-use Rattle.counts.specs.declared.Reply.{Reply}
 use Rattle.runner.specs.Said as runner
 use Rattle.exchange.specs.declared.Bank.{Bank}
 use Rattle.exchange.specs.Line.{calls_of, resets_of, orderly}

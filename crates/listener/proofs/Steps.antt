@@ -1,29 +1,25 @@
 -- One line with its samples: what the proofs of `answer` and `hear` cite. Assumes nothing.
-use mathlib.Core.Path.{◌≡◌, refl, ap, ap₂, ◌∙◌}
+use mathlib.Core.Path.{◌≡◌, refl, ap}
 use mathlib.Core.List.{List}
-use Prim.Native.Nat.{ℕ, ◌-◌, ◌<◌, ◌≤◌}
-use native.Mathlib.Omega.{arith}
+use Prim.Native.Nat.{ℕ, ◌<◌}
 use borrow.Author.Tests.{eq-eqb, ne_eqb}
 use lib.Dec.{eqb}
-use lib.ListN.{length, take, drop, length-drop}
+use lib.ListN.{length}
 use Rattle.rows.specs.Choice.{IF◌THEN◌ELSE◌}
 use Rattle.rows.proofs.Choice.{by_test}
 use Rattle.frames.specs.Frame.{down}
 use Rattle.lines.specs.declared.Decoded.{Decoded}
 use Rattle.lines.specs.Answers.{decoded_of, refused_of}
 use Rattle.lines.proofs.Answers.{decoded_digit}
-use Rattle.lines.proofs.Malformed.{decoded_cut, decoded_short}
+use Rattle.lines.proofs.Malformed.{decoded_cut}
 use Rattle.state.specs.declared.State.{State}
 use Rattle.detector.specs.Step.{downlink_of}
 use Rattle.detector.proofs.Table.{answer_digit}
-use Rattle.pieces.specs.Lines.{plain_of, short}
+use Rattle.pieces.specs.Lines.{plain_of}
 use Rattle.samples.specs.Samples.{sof_of}
-use Rattle.samples.specs.Beside.{Beside, block_of, next_beside, text_beside, end_of, taken_of}
-use Rattle.samples.proofs.Beside.{end_from, end_in, block_is, left_is}
 use Rattle.listener.specs.declared.Reply.{Reply}
 use Rattle.listener.specs.declared.Said.{Said}
 use Rattle.listener.specs.Said.{said_of, denied_of, stepped_of, text_of}
-use Rattle.listener.specs.Run.{next_of, reply_of, answer_of, beside_of}
 
 module _ (s : State) (b l : List ℕ) where
   pub said_no : ((decoded_of l).refusal ≡ 0 → ⊥) → said_of s b l ≡ denied_of (decoded_of l).refusal s

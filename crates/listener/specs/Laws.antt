@@ -1,15 +1,10 @@
 -- What a hearer of lines must be shown to keep, of the detector on the downlink: an answer has five bytes, and the first 85 bytes of a line are enough.
 -- Assumes nothing.
-use Rattle.std.specs.Prelude.{◌≡◌, refl, List, ℕ, ◌≤◌, eqb, length}
+use Rattle.std.specs.Prelude.{◌≡◌, List, ℕ, ◌≤◌, length}
 use Rattle.std.proofs.Common.{ap, arith}
-use Rattle.rows.specs.Choice.{IF◌THEN◌ELSE◌}
-use Rattle.lines.specs.declared.Decoded.{Decoded}
-use Rattle.lines.specs.Answers.{decoded_of}
 use Rattle.lines.proofs.Malformed.{decoded_short}
 use Rattle.state.specs.declared.State.{State}
-use Rattle.detector.specs.Step.{downlink_of}
 use Rattle.pieces.specs.Lines.{short}
-use Rattle.samples.specs.Samples.{sof_of}
 use Rattle.listener.specs.declared.Downlink.{Downlink}
 use Rattle.listener.specs.declared.Said.{Said}
 use Rattle.listener.specs.Said as one

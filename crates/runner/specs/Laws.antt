@@ -1,11 +1,8 @@
 -- What a hearer of lines must be shown to keep, of the detector: an answer has four bytes, and the first 85 bytes of a line are enough. Assumes nothing.
-use Rattle.std.specs.Prelude.{◌≡◌, List, ℕ, ◌≤◌, eqb, length}
+use Rattle.std.specs.Prelude.{◌≡◌, List, ℕ, ◌≤◌, length}
 use Rattle.std.proofs.Common.{ap, arith}
-use Rattle.rows.specs.Choice.{IF◌THEN◌ELSE◌}
-use Rattle.lines.specs.declared.Decoded.{Decoded}
 use Rattle.lines.proofs.Malformed.{decoded_short}
 use Rattle.state.specs.declared.State.{State}
-use Rattle.detector.specs.Step.{step_of}
 use Rattle.pieces.specs.Lines.{short}
 use Rattle.runner.specs.declared.Uplink.{Uplink}
 use Rattle.runner.specs.declared.Said.{Said}

@@ -6,11 +6,11 @@ use Prim.Native.Nat.{ℕ, zero, suc, ◌+◌, ◌-◌, ◌*◌, ◌/◌, ◌%◌
 use native.Mathlib.Omega.{arith}
 use native.Mathlib.Nat.{pow-suc}
 use native.Mathlib.Numerals.{add-one}
-use borrow.Author.Tests.{lt-ltb, le-ltb, ltb-true, ltb-false}
+use borrow.Author.Tests.{le-ltb, ltb-true, ltb-false}
 use lib.Dec.{ltb}
-use lib.ListN.{length, get_or, drop, set, length-append, length-set}
+use lib.ListN.{length, get_or, drop, set, length-set}
 use lib.Seq.{drop-cons, drop-set-lt, get_or-set_same}
-use Rattle.rows.proofs.Choice.{by_test, by_yes, by_no, either}
+use Rattle.rows.proofs.Choice.{by_test, by_no, either}
 use Rattle.teller.specs.Decimal.{decimal_from, decimal_of, read_from, read_of}
 use Rattle.teller.specs.Laws.{decimal_one, decimal_digit}
 

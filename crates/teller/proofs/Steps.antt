@@ -1,31 +1,23 @@
 -- One line: what the proofs of `tell` and `hear` cite. Assumes nothing.
-use mathlib.Core.Path.{◌≡◌, refl, ap, ◌∙◌}
+use mathlib.Core.Path.{◌≡◌, refl, ap}
 use mathlib.Core.List.{List, [], ◌∷◌}
-use Prim.Native.Nat.{ℕ, ◌≤◌}
-use native.Mathlib.Omega.{arith}
+use Prim.Native.Nat.{ℕ}
 use borrow.Author.Tests.{eq-eqb, ne_eqb}
 use lib.Dec.{eqb}
-use lib.IntN.{nat_abs}
-use lib.ListN.{length, length-append}
-use Rattle.numbers.proofs.Parts.{zarith, of, sign}
+use lib.ListN.{length}
 use Rattle.rows.specs.Choice.{IF◌THEN◌ELSE◌}
-use Rattle.rows.proofs.Choice.{by_yes, by_no, by_test}
+use Rattle.rows.proofs.Choice.{by_yes, by_no}
 use Rattle.lines.specs.declared.Decoded.{Decoded}
 use Rattle.lines.specs.Answers.{decoded_of, refused_of}
-use Rattle.lines.proofs.Malformed.{decoded_cut, decoded_short}
-use Rattle.pieces.specs.Lines.{plain_of, short}
-use Rattle.samples.specs.Beside.{Beside, block_of, text_beside}
-use Rattle.threshold.specs.declared.Way.{Way}
-use Rattle.why.specs.declared.Flag.{Flag}
+use Rattle.lines.proofs.Malformed.{decoded_cut}
+use Rattle.pieces.specs.Lines.{plain_of}
 use Rattle.why.specs.declared.Why.{Why}
-use Rattle.why.specs.Fits.{flag_case, way_case}
 use Rattle.why.specs.Explain.{explained_for}
-use Rattle.why.proofs.Range.{WaitingIn, WhyIn, explained_in}
 use Rattle.teller.specs.declared.Hearing.{Hearing}
 use Rattle.teller.specs.declared.Told.{Told}
 use Rattle.teller.specs.Decimal.{decimal_from, decimal_of}
-use Rattle.teller.specs.Words.{flag_word, way_word, values_text, flag_text, way_text, reasons_text, text_of, most}
-use Rattle.teller.specs.Run.{direction_by, sent_of, denied_of, told_of, line_text}
+use Rattle.teller.specs.Words.{text_of}
+use Rattle.teller.specs.Run.{direction_by, sent_of, denied_of, told_of}
 
 module _ (h : Hearing) (block l : List ℕ) where
   pub told_no : ((decoded_of l).refusal ≡ 0 → ⊥) → told_of h block l ≡ denied_of (decoded_of l).refusal h

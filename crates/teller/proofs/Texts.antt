@@ -1,16 +1,11 @@
 -- The texts of a line, word by word, as they are put: there is room for each, and together they are the line's. Assumes nothing.
-use mathlib.Core.Path.{◌≡◌, ap}
-use mathlib.Core.List.{List, [], ◌∷◌, ◌++◌, append-nil}
+use mathlib.Core.List.{List, [], ◌∷◌, ◌++◌}
 use Prim.Native.Nat.{ℕ, ◌+◌, ◌≤◌}
-use lib.IntN.{ℤ, nat_abs}
 use lib.ListN.{length}
-use Rattle.threshold.specs.declared.Way.{Way}
-use Rattle.why.specs.declared.Flag.{Flag}
 use Rattle.why.specs.declared.Reasons.{Reasons}
 use Rattle.why.specs.declared.Why.{Why}
-use Rattle.why.specs.Fits.{flag_case, way_case}
 use Rattle.teller.specs.Decimal.{decimal_of}
-use Rattle.teller.specs.Words.{refused, flag_word, way_word, values_text, flag_text, way_text, reasons_text, text_of}
+use Rattle.teller.specs.Words.{refused, flag_text, way_text, reasons_text, text_of}
 use Rattle.teller.proofs.Puts.{Puts, room_first, room_second, puts_both}
 
 -- ---- a whole line

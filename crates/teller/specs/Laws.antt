@@ -1,10 +1,9 @@
 -- What a hearer of lines must be shown to keep, of the explainer: a line is told in at most 41 bytes, and its first 85 are enough. Assumes nothing.
-use Rattle.std.specs.Prelude.{◌≡◌, refl, List, [], ◌∷◌, ◌++◌, ℕ, zero, suc, ◌+◌, ◌/◌, ◌<◌, ◌≤◌, ℤ, nat_abs, eqb, ltb, length}
-use Rattle.std.proofs.Common.{sym, ap, ◌∙◌, arith, length-append}
+use Rattle.std.specs.Prelude.{◌≡◌, List, [], ◌∷◌, ◌++◌, ℕ, zero, suc, ◌+◌, ◌/◌, ◌<◌, ◌≤◌, ℤ, nat_abs, eqb, ltb, length}
+use Rattle.std.proofs.Common.{ap, ◌∙◌, arith, length-append}
 use mathlib.Core.List.{append-nil}
 use borrow.Author.Tests.{lt-ltb}
 use Rattle.numbers.proofs.Parts.{zarith, of, sign}
-use Rattle.rows.specs.Choice.{IF◌THEN◌ELSE◌}
 use Rattle.rows.proofs.Choice.{by_yes, by_test}
 use Rattle.lines.specs.Answers.{decoded_of}
 use Rattle.lines.proofs.Malformed.{decoded_short}

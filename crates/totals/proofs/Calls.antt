@@ -5,23 +5,20 @@ use mathlib.Core.List.{List, [], ◌∷◌, append-nil}
 use Prim.Native.Nat.{ℕ, zero, suc, ◌+◌, ◌<◌, min}
 use native.Mathlib.Omega.{arith}
 use borrow.Author.Tests.{le-leb, lt-leb}
-use lib.Dec.{eqb}
 use lib.ListN.{length, replicate, length-take}
 use lib.Seq.{take_all}
 use Rattle.rows.specs.Choice.{IF◌THEN◌ELSE◌}
 use Rattle.counts.specs.declared.Totals.{Totals}
 use Rattle.counts.specs.declared.Counted.{Counted}
-use Rattle.counts.specs.Counts.{totals_of, limit, count_of}
+use Rattle.counts.specs.Counts.{totals_of, limit}
 use Rattle.counts.proofs.Adds.{three_add, two_add}
 use Rattle.state.specs.Valid.{reset_of}
-use Rattle.pieces.specs.Lines.{lines_of, short}
+use Rattle.pieces.specs.Lines.{lines_of}
 use Rattle.pieces.specs.Cut.{rest_of}
 use Rattle.pieces.specs.Pieces.{flat, handed_of, handed_all}
 use Rattle.pieces.proofs.Caller.{state_append, state_whole}
 use Rattle.pieces.proofs.Folds.{silent}
-use Rattle.runner.specs.declared.Said.{Said}
-use Rattle.runner.specs.Run.{next_of, reply_of, replies_of}
-use Rattle.runner.proofs.Steps.{said_short}
+use Rattle.runner.specs.Run.{replies_of}
 use Rattle.runner.proofs.Replies.{replies_length}
 use Rattle.player.specs.declared.Player.{Player}
 use Rattle.totals.specs.declared.Tally.{Tally}

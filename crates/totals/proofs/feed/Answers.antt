@@ -1,5 +1,5 @@
 -- `totals::feed` counts the lines that end in the piece. Assumes nothing.
-use mathlib.Core.Path.{◌≡◌, ap, ◌∙◌}
+use mathlib.Core.Path.{ap, ◌∙◌}
 use Rattle.pieces.specs.declared.Finder.{Finder}
 use Rattle.pieces.specs.Pieces.{handed_of}
 use Rattle.pieces.specs.Cut.{rest_of}

@@ -1,5 +1,5 @@
 -- `totals::finish` counts what is carried as a line. Assumes nothing.
-use mathlib.Core.Path.{◌≡◌, ap, ◌∙◌}
+use mathlib.Core.Path.{ap, ◌∙◌}
 use Rattle.pieces.specs.Lines.{lines_of}
 use Rattle.pieces.specs.Cut.{held_of}
 use Rattle.player.specs.Played.{ended_of}

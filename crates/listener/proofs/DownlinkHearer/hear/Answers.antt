@@ -1,5 +1,5 @@
 -- The detector hears a line beside its samples: it is answered, and the answer's text is put. Assumes nothing.
-use mathlib.Core.Path.{◌≡◌, sym, ap, subst, ◌∙◌}
+use mathlib.Core.Path.{sym, ap, subst, ◌∙◌}
 use Prim.Native.Nat.{ℕ, ◌+◌, ◌<◌}
 use Rattle.pieces.specs.Put.{put_of}
 use Rattle.listener.specs.declared.Said.{Said}

@@ -1,12 +1,12 @@
 -- The explainer hears a line: it is explained, and its words are put, for which there is room. Assumes nothing.
-use mathlib.Core.Path.{◌≡◌, ap, subst, sym, ◌∙◌}
-use Prim.Native.Nat.{ℕ, ◌+◌, ◌≤◌}
+use mathlib.Core.Path.{ap, ◌∙◌}
+use Prim.Native.Nat.{◌+◌}
 use native.Mathlib.Omega.{arith}
 use lib.ListN.{length}
 use Rattle.pieces.specs.Put.{put_of}
 use Rattle.teller.specs.declared.Told.{Told}
-use Rattle.teller.specs.Words.{text_of, most}
-use Rattle.teller.specs.Run.{told_of, next_of, line_text}
+use Rattle.teller.specs.Words.{text_of}
+use Rattle.teller.specs.Run.{next_of, line_text}
 use Rattle.teller.specs.Laws.{line_most}
 use Rattle.teller.proofs.HearingHearer.hear.Goals as goal
 
