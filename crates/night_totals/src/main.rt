@@ -28,7 +28,7 @@ fn turn(rt: HostRuntime, source: &mut Source, name: &[u8], n: Night, piece: &mut
     let k = got.n;
     let night = totals::feed(n, &piece[..k]);
     Turned {
-        more: got.more & (night.tally.counted.refusal == 0),
+        more: got.more & (night.hearer.counted.refusal == 0),
         failed: got.failed,
         night,
     }

@@ -46,7 +46,7 @@ fn turn(
     let k = heard.n;
     let fed = listener::feed(r, &piece[..n], &samples[..k], out);
     let wrote = fed.wrote;
-    let next = fed.listener;
+    let next = fed.player;
     let ok = files::write(rt, &out[..wrote]);
     Turned {
         more: got.more & ok,

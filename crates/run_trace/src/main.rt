@@ -25,7 +25,7 @@ fn turn(
     let n = got.n;
     let fed = runner::feed(r, &piece[..n], out);
     let wrote = fed.wrote;
-    let next = fed.runner;
+    let next = fed.player;
     let written = files::write(rt, &out[..wrote]);
     Turned {
         more: got.more & written,

@@ -59,7 +59,7 @@ fn turn(
 {
     let got = files::read(rt, trace, trace_name, piece);
     let n = got.n;
-    let hearing = t.hearing;
+    let hearing = t.hearer;
     let heard = hear(
         rt,
         hearing.downlink,
@@ -78,7 +78,7 @@ fn turn(
     let k = heard.n;
     let fed = teller::feed(t, &piece[..n], &samples[..k], out);
     let wrote = fed.wrote;
-    let next = fed.teller;
+    let next = fed.player;
     let ok = files::write(rt, &out[..wrote]);
     Turned {
         more: got.more & ok,

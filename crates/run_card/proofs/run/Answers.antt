@@ -4,7 +4,7 @@ use mathlib.Core.Path.{◌≡◌, sym, ap, subst}
 use Prim.Native.Nat.{ℕ, ◌≤◌}
 use lib.ListN.{length}
 use lib.Seq.{length-take-le}
-use Rattle.exchange.specs.declared.Last.{Last}
+use Rattle.player.specs.declared.Last.{Last}
 use Rattle.exchange.proofs.Calls.{finish_fits}
 use Rattle.run_card.proofs.run.Goals as goal
 use Rattle.run_card.proofs.run.Goals.{After-text-1}
@@ -19,7 +19,7 @@ fits : (c : After-text-1) → c.finish-last.result.wrote ≤ length c.finish-las
 fits c =
     let n : length c.finish-last.result.text ≡ 4 = search rules in
     let h = finish_fits _ in
-    let e = ap (λ (l : Last). l.wrote) c.finish-last.ensures in
+    let e = ap (λ (l : Last 4). l.wrote) c.finish-last.ensures in
     subst (λ (m : ℕ). c.finish-last.result.wrote ≤ m) (sym n) (subst (λ (m : ℕ). m ≤ 4) (sym e) h)
 
 pub slice_bounds-text-end : goal.slice_bounds-text-end

@@ -7,7 +7,8 @@ use Prim.Native.Nat.{ℕ, ◌*◌, ◌≤◌}
 use native.Mathlib.Omega.{arith}
 use lib.ListN.{length, drop, length-append}
 use lib.Seq.{length-take-le}
-use Rattle.listener.proofs.Calls.{feeds_in, fed_fits}
+use Rattle.player.proofs.Calls.{feeds_in}
+use Rattle.listener.proofs.Calls.{fed_fits}
 use Rattle.run_downlink.proofs.turn.Goals as goal
 use Rattle.run_downlink.proofs.turn.Goals.{After-feeds-bytes, After-next-1, After-slice_known-5-1}
 

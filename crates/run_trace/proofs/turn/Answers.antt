@@ -4,8 +4,7 @@ use mathlib.Core.Path.{◌≡◌, sym, ap, subst}
 use Prim.Native.Nat.{ℕ, ◌≤◌}
 use lib.ListN.{length}
 use lib.Seq.{length-take-le}
-use Rattle.runner.specs.declared.Fed.{Fed}
-use Rattle.runner.proofs.Calls.{wrote_fits}
+use Rattle.runner.proofs.Calls.{fed_fits}
 use Rattle.run_trace.proofs.turn.Goals as goal
 use Rattle.run_trace.proofs.turn.Goals.{After-next-1}
 
@@ -13,7 +12,7 @@ fits : (c : After-next-1) → c.feed-fed.result.wrote ≤ length c.feed-fed.new.
 fits c =
     let f = c.feed-fed in
     let n : length f.new.out ≡ length c.args.out.now = search rules in
-    subst (λ (m : ℕ). f.result.wrote ≤ m) (sym n) (subst (λ (m : ℕ). m ≤ length c.args.out.now) (sym (ap (λ (x : Fed). x.wrote) f.ensures.value)) (wrote_fits _ _ (length c.args.out.now)))
+    subst (λ (m : ℕ). f.result.wrote ≤ m) (sym n) (fed_fits _ _ (length c.args.out.now) _ f.ensures.value)
 
 pub slice_bounds-write-end : goal.slice_bounds-write-end
 slice_bounds-write-end c = fits c

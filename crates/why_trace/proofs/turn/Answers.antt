@@ -5,8 +5,7 @@ use Prim.Native.Nat.{ℕ, ◌*◌, ◌≤◌}
 use native.Mathlib.Omega.{arith}
 use lib.ListN.{length, length-take}
 use lib.Seq.{length-take-le}
-use Rattle.teller.specs.declared.Fed.{Fed}
-use Rattle.teller.proofs.Calls.{wrote_fits}
+use Rattle.teller.proofs.Calls.{fed_fits}
 use Rattle.why_trace.proofs.turn.Goals as goal
 use Rattle.why_trace.proofs.turn.Goals.{After-next-1}
 
@@ -22,7 +21,7 @@ fits : (c : After-next-1) → c.feed-fed.result.wrote ≤ length c.feed-fed.new.
 fits c =
     let f = c.feed-fed in
     let n : length f.new.out ≡ length c.args.out.now = search rules in
-    subst (λ (m : ℕ). f.result.wrote ≤ m) (sym n) (subst (λ (m : ℕ). m ≤ length c.args.out.now) (sym (ap (λ (x : Fed). x.wrote) f.ensures.value)) (wrote_fits _ _ _ (length c.args.out.now)))
+    subst (λ (m : ℕ). f.result.wrote ≤ m) (sym n) (fed_fits _ _ _ (length c.args.out.now) _ f.ensures.value)
 
 pub slice_bounds-write-end : goal.slice_bounds-write-end
 slice_bounds-write-end c = fits c
