@@ -5,11 +5,10 @@ use mathlib.Core.Path.{◌≡◌, refl, sym, ap, ◌∙◌}
 use mathlib.Core.Bool.{Bool, true, false}
 use mathlib.Core.List.{List, [], ◌∷◌, ◌++◌}
 use native.Mathlib.Omega.{arith}
-use native.Mathlib.Numerals.{add-one}
-use borrow.Author.Tests.{eq-eqb, ne_eqb, eqb-true, eqb-false}
+use borrow.Author.Tests.{eqb-true, eqb-false}
 use lib.Dec.{eqb}
-use lib.ListN.{length, get_or, take, drop, length-append, length-drop, drop_of_length-le, take-append-drop}
-use lib.Seq.{drop-cons, drop-drop, take-suc, get_or-drop}
+use lib.ListN.{length, get_or, take, drop, length-append, length-drop, take-append-drop}
+use lib.Seq.{drop-drop, take-suc, get_or-drop}
 use Rattle.rows.specs.Choice.{IF◌THEN◌ELSE◌}
 use Rattle.rows.proofs.Choice.{either, by_test}
 use Rattle.pieces.specs.declared.Finder.{Finder}
@@ -18,20 +17,6 @@ use Rattle.pieces.specs.Cut.{held_of, to_of, ending_of, from_of, head_of, mid_of
 use Rattle.pieces.specs.Pieces.{handed_of}
 use Rattle.pieces.proofs.Carried.{held_plain}
 use Rattle.pieces.proofs.Whole.{none_plain, to_le, to_feed, to_plain, first_to, ending_le, first_is, head_one}
-
--- ---- line feeds, counted from the front
-module _ (s : List ℕ) (k : ℕ) where
-  pub feeds_here : k < length s → get_or s k 0 ≡ 10 → feeds_of (drop k s) ≡ suc (feeds_of (drop (k + 1) s))
-  unfolding feeds_of IF◌THEN◌ELSE◌
-  feeds_here h e = ap feeds_of (drop-cons s k 0 h) ∙ rw (eq-eqb (get_or s k 0) 10 e, add-one k)
-
-  pub feeds_next : k < length s → (get_or s k 0 ≡ 10 → ⊥) → feeds_of (drop k s) ≡ feeds_of (drop (k + 1) s)
-  unfolding feeds_of IF◌THEN◌ELSE◌
-  feeds_next h e = ap feeds_of (drop-cons s k 0 h) ∙ rw (ne_eqb (get_or s k 0) 10 e, add-one k)
-
-  pub feeds_end : length s ≤ k → feeds_of (drop k s) ≡ 0
-  unfolding feeds_of
-  feeds_end h = ap feeds_of (drop_of_length-le s h)
 
 pub feeds_append : (a b : List ℕ) → feeds_of (a ++ b) ≡ feeds_of a + feeds_of b
 unfolding feeds_of IF◌THEN◌ELSE◌

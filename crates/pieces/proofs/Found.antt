@@ -1,32 +1,73 @@
 -- The first line of a text and the rest; texts that are one line; texts that end a line. Assumes nothing.
 use Prim.Native.Nat.{ℕ, zero, suc, ◌+◌, ◌-◌, ◌<◌, ◌≤◌, min}
 use mathlib.Core.Path.{◌≡◌, refl, sym, ap, ap₂, ◌∙◌}
-use mathlib.Core.Bool.{Bool, true, false}
+use mathlib.Core.Bool.{Bool, true, false, cond, not, ◌&&◌}
 use mathlib.Core.List.{List, [], ◌∷◌, ◌++◌}
 use native.Mathlib.Omega.{arith}
 use native.Mathlib.Numerals.{add-one}
-use borrow.Author.Tests.{eq-eqb, ne_eqb, eqb-true, eqb-false}
-use lib.Dec.{eqb}
-use lib.ListN.{length, get_or, take, drop, length-append, length-drop, drop_of_length-le}
-use lib.Seq.{drop-cons, take-length, drop-length, take-suc, take-append-add, drop-append-add, get_or-drop}
+use borrow.Author.Tests.{ne_eqb, eqb-true, eqb-false, ltb-true, ltb-false, lt-leb, le-leb, leb-true, leb-false}
+use lib.Dec.{eqb, ltb, leb}
+use Rattle.std.specs.List.{position, position_or_len, count_by, list_all}
+use Rattle.std.specs.Option.{unwrap_or}
+use Rattle.std.proofs.lemmas.List.Recursion.{is_position_or_len, is_count_by}
+use lib.ListN.{length, get_or, take, drop, length-append, length-drop}
+use lib.Seq.{drop-cons, take_all, take-length, drop-length, take-suc, take-append-add, drop-append-add, get_or-drop}
 use Rattle.rows.specs.Choice.{IF◌THEN◌ELSE◌}
-use Rattle.rows.proofs.Choice.{by_test, by_yes, by_no}
-use Rattle.pieces.specs.Lines.{on_first, lines_of, plain_of, first_of}
+use Rattle.rows.proofs.Choice.{either, by_test, by_no}
+use Rattle.pieces.specs.Lines.{on_first, lines_of, plain_of, first_of, feeds_of}
 use Rattle.pieces.specs.Cut.{end_from}
 
 -- ---- before the first line feed
-module _ (s : List ℕ) (k : ℕ) where
-  pub plain_here : k < length s → get_or s k 0 ≡ 10 → plain_of (drop k s) ≡ 0
-  unfolding plain_of IF◌THEN◌ELSE◌
-  plain_here h e = ap plain_of (drop-cons s k 0 h) ∙ rw (eq-eqb (get_or s k 0) 10 e)
+-- a place as the library finds it
+pub plain_place : (l : List ℕ) → plain_of l ≡ position_or_len (λ b. eqb b 10) l
+unfolding plain_of IF◌THEN◌ELSE◌
+plain_place l = is_position_or_len plain_of (λ b. eqb b 10) refl step l
+  where
+    step : (b : ℕ) (m : List ℕ) → plain_of (b ∷ m) ≡ cond (eqb b 10) 0 (1 + plain_of m)
+    step b m = go (eqb b 10)
+      where
+        go : (t : Bool) → (IF t THEN 0 ELSE suc (plain_of m)) ≡ cond t 0 (1 + plain_of m)
+        go true = refl
+        go false = omega arith
 
+module _ (s : List ℕ) (k : ℕ) where
   pub plain_next : k < length s → (get_or s k 0 ≡ 10 → ⊥) → plain_of (drop k s) ≡ suc (plain_of (drop (k + 1) s))
   unfolding plain_of IF◌THEN◌ELSE◌
   plain_next h e = ap plain_of (drop-cons s k 0 h) ∙ rw (ne_eqb (get_or s k 0) 10 e, add-one k)
 
-  pub plain_end : length s ≤ k → plain_of (drop k s) ≡ 0
-  unfolding plain_of
-  plain_end h = ap plain_of (drop_of_length-le s h)
+-- as the library counts line feeds, and tests that there is none
+feeds_count : (l : List ℕ) → feeds_of l ≡ count_by (λ b. eqb b 10) l
+unfolding feeds_of IF◌THEN◌ELSE◌
+feeds_count l = is_count_by feeds_of (λ b. eqb b 10) refl step l
+  where
+    step : (b : ℕ) (m : List ℕ) → feeds_of (b ∷ m) ≡ cond (eqb b 10) (1 + feeds_of m) (feeds_of m)
+    step b m = go (eqb b 10)
+      where
+        go : (t : Bool) → (IF t THEN suc (feeds_of m) ELSE feeds_of m) ≡ cond t (1 + feeds_of m) (feeds_of m)
+        go true = omega arith
+        go false = refl
+
+leb_suc : (m n : ℕ) → leb m n ≡ leb (suc m) (suc n)
+leb_suc m n =
+    either (leb m n ≡ leb (suc m) (suc n)) (leb m n)
+    (λ e. let h = leb-true m n e in e ∙ sym (le-leb (suc m) (suc n) (omega arith)))
+    (λ e. let h = leb-false m n e in e ∙ sym (lt-leb (suc m) (suc n) (omega arith)))
+
+plain_all : (l : List ℕ) → list_all (λ b. not (eqb b 10)) l ≡ leb (length l) (plain_of l)
+unfolding plain_of IF◌THEN◌ELSE◌
+plain_all [] = refl
+plain_all (b ∷ l) = go (plain_all l) (eqb b 10)
+  where
+    go : list_all (λ b. not (eqb b 10)) l ≡ leb (length l) (plain_of l) → (t : Bool) → (not t && list_all (λ b. not (eqb b 10)) l) ≡ leb (suc (length l)) (IF t THEN 0 ELSE suc (plain_of l))
+    go ih true = sym (lt-leb (suc (length l)) 0 (omega arith))
+    go ih false = ih ∙ leb_suc (length l) (plain_of l)
+
+-- at the end of a loop
+pub feeds_taken : (l : List ℕ) (i : ℕ) → length l ≤ i → count_by (λ b. eqb b 10) (take i l) ≡ feeds_of l
+feeds_taken l i h = ap (count_by (λ b. eqb b 10)) (take_all i l h) ∙ sym (feeds_count l)
+
+pub plain_taken : (l : List ℕ) (i : ℕ) → length l ≤ i → list_all (λ b. not (eqb b 10)) (take i l) ≡ leb (length l) (plain_of l)
+plain_taken l i h = ap (list_all (λ b. not (eqb b 10))) (take_all i l h) ∙ plain_all l
 
 pub plain_le : (l : List ℕ) → plain_of l ≤ length l
 unfolding plain_of IF◌THEN◌ELSE◌
@@ -36,6 +77,14 @@ plain_le (b ∷ l) = go (plain_le l) (eqb b 10)
     go : plain_of l ≤ length l → (t : Bool) → (IF t THEN 0 ELSE suc (plain_of l)) ≤ suc (length l)
     go h true = omega arith
     go h false = omega arith
+
+pub plain_found : (l : List ℕ) → unwrap_or (position (λ b. eqb b 10) l) (length l) ≡ plain_of l
+plain_found l =
+    let e = plain_place l in
+    let h = plain_le l in
+    either (unwrap_or (position (λ b. eqb b 10) l) (length l) ≡ plain_of l) (ltb (position_or_len (λ b. eqb b 10) l) (length l))
+    (λ t. rw t (sym e))
+    (λ t. rw t (let f = ltb-false _ _ t in omega arith))
 
 -- of a part
 pub plain_take : (n : ℕ) (l : List ℕ) → plain_of (take n l) ≡ min n (plain_of l)
@@ -128,17 +177,22 @@ closed_part l a (suc n) x h e =
 
 -- ---- the last line that ends in a text
 module _ (l : List ℕ) where
-  pub end_here : (k : ℕ) → 0 < k → get_or l (k - 1) 0 ≡ 10 → end_from l k ≡ k
+  -- a line feed at i, and none after it
+  pub end_last : (i n : ℕ) → i < n → get_or l i 0 ≡ 10 → ((k : ℕ) → i + 1 ≤ k → k < n → get_or l k 0 ≡ 10 → ⊥) → end_from l n ≡ i + 1
   unfolding end_from
-  end_here zero h e = absurd (omega arith)
-  end_here (suc k) h e = let q : suc k - 1 ≡ k = omega arith in by_yes _ _ (eq-eqb (get_or l k 0) 10 (ap (λ (j : ℕ). get_or l j 0) (sym q) ∙ e))
+  end_last i zero h e f = absurd (omega arith)
+  end_last i (suc n) h e f =
+      by_test (λ (j : ℕ). j ≡ i + 1) (eqb (get_or l n 0) 10) _ _
+      (λ t. either (suc n ≡ i + 1) (ltb i n) (λ u. absurd (f n (let v = ltb-true i n u in omega arith) (omega arith) (eqb-true (get_or l n 0) 10 t))) (λ u. let v = ltb-false i n u in omega arith))
+      (λ t.
+      either (end_from l n ≡ i + 1) (ltb i n)
+      (λ u. end_last i n (ltb-true i n u) e (λ k a b. f k a (omega arith)))
+      (λ u. let v = ltb-false i n u in let w : n ≡ i = omega arith in absurd (eqb-false (get_or l n 0) 10 t (ap (λ (j : ℕ). get_or l j 0) w ∙ e))))
 
-  pub end_back : (k : ℕ) → 0 < k → (get_or l (k - 1) 0 ≡ 10 → ⊥) → end_from l (k - 1) ≡ end_from l k
+  pub end_none : (n : ℕ) → ((k : ℕ) → k < n → get_or l k 0 ≡ 10 → ⊥) → end_from l n ≡ 0
   unfolding end_from
-  end_back zero h e = absurd (omega arith)
-  end_back (suc k) h e =
-      let q : suc k - 1 ≡ k = omega arith in
-      ap (end_from l) q ∙ sym (by_no _ _ (ne_eqb (get_or l k 0) 10 (λ z. e (ap (λ (j : ℕ). get_or l j 0) q ∙ z))))
+  end_none zero f = refl
+  end_none (suc n) f = by_no _ _ (ne_eqb (get_or l n 0) 10 (f n (omega arith))) ∙ end_none n (λ k h. f k (omega arith))
 
   pub end_le : (k : ℕ) → end_from l k ≤ k
   unfolding end_from

@@ -6,15 +6,14 @@ ghost use Rattle.pieces.specs.Lines as text;
 ghost use Rattle.pieces.specs.Cut as piece;
 ghost use Rattle.pieces.specs.Put.{put_of};
 
-use rows::lesser;
-
 // The first bytes of a line that are kept: one more than the longest line of any form has, so that a longer one is known.
 const KEPT: usize = 85;
 
 // The bytes before the line feed of a line as most are: a longer line has none among them either.
 const USUAL: usize = 81;
 
-// An unfinished line: its first bytes, and how many they are.
+// An unfinished line: its first bytes, and how many they are. There is no heap, and the promises of `held` and `cut` speak of any two such fields, so that
+// the buffer is fixed and its length stands beside it.
 #[derive(Clone, Copy)]
 pub struct Finder {
     pub line: [u8; KEPT],
@@ -22,6 +21,7 @@ pub struct Finder {
 }
 
 // A piece in three: the first `n` bytes of `head` are the line that was carried and ends here, in `from..to` lie whole lines, and the rest is carried.
+// The same holds of `head` and `n`, since there is no heap.
 #[derive(Clone, Copy)]
 pub struct Parts {
     pub head: [u8; KEPT],
@@ -33,82 +33,64 @@ pub struct Parts {
 
 // ---- lines in a text
 
-// Where the first line feed from `i` on stands, or the length: byte by byte.
-fn seek(s: &[u8], i: usize) -> usize
-    ensures { result ≡ i + text.plain_of (drop i s.now) }
+// How many bytes stand before the first line feed: byte by byte.
+fn seek(s: &[u8]) -> usize
+    ensures { result ≡ text.plain_of s.now }
 {
-    let mut k = i;
-    while k < s.len() {
-        if s[k] == 10 {
-            return k;
-        }
-        k += 1;
-    }
-    k
+    s.iter().position(|b| *b == b'\n').unwrap_or(s.len())
 }
 
-// Whether no line feed stands in the 81 bytes from `i` on. A loop that never leaves is done many bytes at a time.
-fn plain(s: &[u8], i: usize) -> bool
-    requires { i + 81 ≤ length s.now }
-    ensures { result ≡ leb 81 (text.plain_of (drop i s.now)) }
+// Whether no line feed stands in as many bytes as a line has. A loop that never leaves is done many bytes at a time.
+#[tactic(auto, using(crate::proofs::Found::plain_taken))]
+fn plain(usual: &[u8; USUAL]) -> bool
+    ensures { result ≡ leb 81 (text.plain_of usual.now) }
 {
     let mut ok = true;
-    for k in 0..USUAL {
-        if s[i + k] == 10 {
-            ok = false;
-        }
+    for b in usual {
+        ok = ok & (*b != b'\n');
     }
     ok
 }
 
 // The same as `seek`: the first 81 bytes of a line, as most have and more, are tested in one go.
-fn find(s: &[u8], i: usize) -> usize
-    ensures { result ≡ i + text.plain_of (drop i s.now) }
+fn find(s: &[u8]) -> usize
+    ensures { result ≡ text.plain_of s.now }
 {
-    if i >= s.len() {
-        return i;
+    match s.split_first_chunk() {
+        Some((usual, rest)) if plain(usual) => USUAL + seek(rest),
+        _ => seek(s),
     }
-    if s.len() - i < USUAL {
-        return seek(s, i);
-    }
-    if plain(s, i) {
-        return seek(s, i + USUAL);
-    }
-    seek(s, i)
 }
 
 // Where the line that starts at `i` ends.
 pub fn line_end(s: &[u8], i: usize) -> usize
     ensures { result ≡ i + text.first_of (drop i s.now) }
 {
-    let k = find(s, i);
-    if k < s.len() {
-        return k + 1;
+    if i >= s.len() {
+        return i;
     }
-    k
+    let k = i + find(&s[i..]);
+    if k < s.len() { k + 1 } else { k }
 }
 
 // Where the last line that ends in a text ends, 0 where none does.
 fn last_end(s: &[u8]) -> usize
     ensures { result ≡ piece.to_of s.now }
 {
-    let mut k = s.len();
-    while k > 0 {
-        if s[k - 1] == 10 {
-            return k;
-        }
-        k -= 1;
+    match s.iter().rposition(|b| *b == b'\n') {
+        Some(k) => k + 1,
+        None => 0,
     }
-    0
 }
 
 // How many lines end in a piece. A loop that never leaves is done many bytes at a time.
+#[tactic(auto, using(crate::proofs::Found::feeds_taken))]
 pub fn feeds(piece: &[u8]) -> usize
     ensures { result ≡ text.feeds_of piece.now }
 {
     let mut n = 0;
-    for k in 0..piece.len() {
-        if piece[k] == 10 {
+    for b in piece {
+        if *b == b'\n' {
             n += 1;
         }
     }
@@ -131,9 +113,7 @@ pub fn start() -> Finder
 pub fn held(f: Finder) -> usize
     ensures { result ≡ length (piece.held_of f) }
 {
-    let line = f.line;
-    let fill = lesser(f.fill, KEPT);
-    find(&line[..fill], 0)
+    find(&f.line[..f.fill.min(KEPT)])
 }
 
 // A part stored into a line.
@@ -142,9 +122,7 @@ fn stored(line: [u8; KEPT], at: usize, part: &[u8]) -> [u8; KEPT]
     ensures { result ≡ take at line ++ part.now ++ drop (at + length part.now) line }
 {
     let mut out = line;
-    for i in 0..part.len() {
-        out[at + i] = part[i];
-    }
+    out[at..at + part.len()].copy_from_slice(part);
     out
 }
 
@@ -153,9 +131,8 @@ fn joined(f: Finder, part: &[u8]) -> Finder
     ensures { result ≡ piece.finder_of (piece.held_of f ++ part.now) }
 {
     let fill = held(f);
-    let old = f.line;
-    let kept = stored([0u8; KEPT], 0, &old[..fill]);
-    let k = lesser(part.len(), KEPT - fill);
+    let kept = stored([0u8; KEPT], 0, &f.line[..fill]);
+    let k = part.len().min(KEPT - fill);
     let line = stored(kept, fill, &part[..k]);
     Finder {
         line,
@@ -167,10 +144,7 @@ fn joined(f: Finder, part: &[u8]) -> Finder
 fn ending(f: Finder, input: &[u8]) -> usize
     ensures { result ≡ piece.ending_of f input.now }
 {
-    if held(f) == 0 {
-        return 0;
-    }
-    line_end(input, 0)
+    if held(f) == 0 { 0 } else { line_end(input, 0) }
 }
 
 // Cuts a piece.
@@ -191,12 +165,10 @@ pub fn cut(f: Finder, input: &[u8]) -> Parts
     let from = ending(f, input);
     let h = joined(f, &input[..from]);
     let head = h.line;
-    let n = h.fill;
-    let none = start();
-    let rest = joined(none, &input[to..]);
+    let rest = joined(start(), &input[to..]);
     Parts {
         head,
-        n,
+        n: h.fill,
         from,
         to,
         rest,
@@ -209,13 +181,7 @@ pub fn cut(f: Finder, input: &[u8]) -> Parts
 pub fn put(out: &mut [u8], at: usize, text: &[u8])
     ensures { out.new ≡ put_of out.old at text.now }
 {
-    if at > out.len() {
-        return;
-    }
-    if text.len() > out.len() - at {
-        return;
-    }
-    for i in 0..text.len() {
-        out[at + i] = text[i];
+    if at <= out.len() && text.len() <= out.len() - at {
+        out[at..at + text.len()].copy_from_slice(text);
     }
 }

@@ -4,7 +4,9 @@ use mathlib.Core.List.{List, [], ◌∷◌}
 use Prim.Native.Nat.{ℕ, zero, suc, ◌+◌, ◌*◌, ◌<◌, ◌≤◌}
 use native.Mathlib.Omega.{arith}
 use lib.IntN.{ℤ, pos}
-use lib.ListN.{length, get_or, take, get_or-eq_default}
+use lib.ListN.{length, get_or, take, drop, get_or-eq_default}
+use Rattle.std.proofs.Common.{drop-drop, get_or-drop, get_or-take}
+use Rattle.std.specs.Simd.{first_chunks}
 use Rattle.samples.specs.Samples.{sample_of, samples_of}
 
 -- two bytes a sample, and at most one byte more
@@ -36,3 +38,16 @@ samples_take (suc n) (lo ∷ []) = let a : 2 * suc n ≡ suc (suc (2 * n)) = ome
 samples_take (suc n) (lo ∷ hi ∷ l) =
     let a : 2 * suc n ≡ suc (suc (2 * n)) = omega arith in
     ap (λ (i : ℕ). samples_of (take i (lo ∷ hi ∷ l))) a ∙ ap (λ (s : List ℤ). sample_of lo hi ∷ s) (samples_take n l)
+
+-- ---- the bytes in pairs
+pair_at : (n k : ℕ) (l : List ℕ) → k < n → get_or (first_chunks 2 n l) k [] ≡ take 2 (drop (2 * k) l)
+pair_at zero k l h = absurd (omega arith)
+pair_at (suc n) zero l h = refl
+pair_at (suc n) (suc k) l h =
+    let a : 2 + 2 * k ≡ 2 * suc k = omega arith in
+    pair_at n k (drop 2 l) (omega arith) ∙ ap (take 2) (drop-drop (2 * k) 2 l ∙ ap (λ (i : ℕ). drop i l) a)
+
+-- a byte of the pair k of the first m pairs
+pub byte_at : (m n k i : ℕ) (l : List ℕ) → k < m → k < n → i < 2 → get_or (get_or (take m (first_chunks 2 n l)) k []) i 0 ≡ get_or l (2 * k + i) 0
+byte_at m n k i l h g f =
+    ap (λ (p : List ℕ). get_or p i 0) (get_or-take m (first_chunks 2 n l) k [] h ∙ pair_at n k l g) ∙ (get_or-take 2 (drop (2 * k) l) i 0 f ∙ get_or-drop (2 * k) l i 0)

@@ -1,12 +1,13 @@
 -- One sample: its number by its pattern, its range, and that it has its two bytes and no others. Assumes nothing.
 use mathlib.Core.Path.{◌≡◌, sym, ◌∙◌}
-use Prim.Native.Nat.{ℕ, ◌+◌, ◌*◌, ◌<◌, ◌≤◌}
+use Prim.Native.Nat.{ℕ, ◌+◌, ◌*◌, ◌^◌, ◌<◌, ◌≤◌}
 use native.Mathlib.Omega.{arith}
 use lib.Dec.{ltb}
 use borrow.Author.Tests.{lt-ltb, le-ltb, ltb-true, ltb-false}
 use lib.IntN.{pos, ◌-ℤ◌}
 use mir.Syntax.{w16}
-use mir.Val.{SFits}
+use mir.Val.{SFits, hbits, to_z}
+use mir.Facts.{to_z_pos}
 use Rattle.numbers.proofs.Parts.{zarith, minus, same}
 use Rattle.rows.proofs.Choice.{by_yes, by_no, either}
 use Rattle.samples.specs.Samples.{pattern_of, sample_of}
@@ -26,6 +27,15 @@ module _ (lo hi : ℕ) where
       either (SFits w16 (sample_of lo hi)) (ltb (lo + 256 * hi) 32768)
       (λ t. rw (sample_low (ltb-true _ _ t)) (let h = ltb-true (lo + 256 * hi) 32768 t in omega zarith))
       (λ t. rw (sample_high (ltb-false _ _ t)) (let h = ltb-false (lo + 256 * hi) 32768 t in omega (zarith, minus (pos (lo + 256 * hi)) (pos 65536))))
+
+-- a pattern read as signed
+pub sample_signed : (lo hi : ℕ) → lo < 256 → hi < 256 → to_z w16 (lo + 256 * hi) ≡ sample_of lo hi
+sample_signed lo hi a b =
+    either (to_z w16 (lo + 256 * hi) ≡ sample_of lo hi) (ltb (lo + 256 * hi) 32768)
+    (λ t. to_z_pos w16 (ltb-true _ _ t) ∙ sym (sample_low lo hi (ltb-true _ _ t)))
+    (λ t.
+    let h = ltb-false _ _ t in
+    rw (le-ltb (lo + 256 * hi) (2 ^ hbits w16) h, sample_high lo hi h) (omega (zarith, minus (pos (lo + 256 * hi)) (pos 65536))))
 
 -- ---- a sample has its two bytes and no others
 module _ (lo hi mo ni : ℕ) (a : lo < 256) (b : hi < 256) (c : mo < 256) (d : ni < 256) where

@@ -36,5 +36,5 @@ returns c =
     let a = c.args in
     let to = c.last_end-to.result in
     let n = length-drop to a.input.now in
-    cut_some a.f a.input.now c.ending-from.result to c.joined-h.result c.start-none.result c.joined-rest-2.result (λ z. c.if-to-eq0.false (c.last_end-to.ensures ∙ z)) c.last_end-to.ensures c.ending-from.ensures c.joined-h.ensures c.start-none.ensures
-    (c.joined-rest-2.ensures ∙ ap (λ (x : List ℕ). finder_of (held_of c.start-none.result ++ x)) (take_all (length a.input.now - to) (drop to a.input.now) (omega arith)))
+    cut_some a.f a.input.now c.ending-from.result to c.joined-h.result c.start.result c.joined-rest-2.result (λ z. c.if-to-eq0.false (c.last_end-to.ensures ∙ z)) c.last_end-to.ensures c.ending-from.ensures c.joined-h.ensures c.start.ensures
+    (c.joined-rest-2.ensures ∙ ap (λ (x : List ℕ). finder_of (held_of c.start.result ++ x)) (take_all (length a.input.now - to) (drop to a.input.now) (omega arith)))

@@ -11,8 +11,8 @@ pub returns-then-held-eq0 : goal.returns-then-held-eq0
 unfolding ending_of IF◌THEN◌ELSE◌
 returns-then-held-eq0 c = rw (eq-eqb _ 0 (sym c.held.ensures ∙ c.if-held-eq0.true))
 
-pub returns : goal.returns
+pub returns-else-held-eq0 : goal.returns-else-held-eq0
 unfolding ending_of IF◌THEN◌ELSE◌
-returns c =
+returns-else-held-eq0 c =
     let h = c.held in
     rw (ne_eqb (length (held_of c.args.f)) 0 (λ z. c.if-held-eq0.false (h.ensures ∙ z))) (omega (arith, c.line_end.ensures))

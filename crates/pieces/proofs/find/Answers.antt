@@ -1,20 +1,22 @@
 -- `pieces::find`: where no line feed stands in 81 bytes, it is looked for after them. Assumes nothing.
-use mathlib.Core.Path.{sym, ap, ◌∙◌}
-use native.Mathlib.Omega.{arith}
-use borrow.Author.Tests.{leb-true}
-use lib.ListN.{drop}
-use lib.Seq.{drop-drop}
+use Rattle.std.proofs.Common.{◌≡◌, ◌+◌, sym, ap, ◌∙◌, arith, leb-true, rules}
 use Rattle.pieces.specs.Lines.{plain_of}
-use Rattle.pieces.proofs.Found.{plain_end, plain_drop}
+use Rattle.pieces.proofs.Found.{plain_le, plain_take, plain_drop}
 use Rattle.pieces.proofs.find.Goals as goal
+use Rattle.pieces.proofs.find.Goals.{After-seek}
 
-pub returns-then-i-s : goal.returns-then-i-s
-returns-then-i-s c = let a = c.args in omega (arith, plain_end a.s.now a.i (omega arith))
+-- 81 bytes are passed
+passed : (c : After-seek) → 81 + c.seek.result ≡ plain_of c.args.s.now
+passed c =
+    let s = c.args.s.now in
+    let e = c.in-Some.ensures.cases in
+    let p = ap plain_of e.0 ∙ plain_take 81 s in
+    let h = leb-true 81 _ (sym c.plain.ensures ∙ c.if-plain.true) in
+    let d = plain_drop 81 s (omega arith) in
+    omega (arith, c.seek.ensures, ap plain_of e.1)
 
-pub returns-then-plain : goal.returns-then-plain
-returns-then-plain c =
-    let p = c in
-    let a = p.args in
-    let d = plain_drop 81 (drop a.i a.s.now) (leb-true 81 _ (sym p.plain.ensures ∙ c.if-plain.true)) in
-    let e = ap plain_of (drop-drop 81 a.i a.s.now) in
-    c.seek-then-plain.ensures ∙ omega arith
+pub overflow_add-result : goal.overflow_add-result
+overflow_add-result c = let p = passed c in let l = plain_le c.args.s.now in search rules
+
+pub returns-in-Some : goal.returns-in-Some
+returns-in-Some c = passed c
