@@ -23,7 +23,7 @@ impl Steps<16384> for Sum {
     // Counts the lines of a piece.
     fn step(&mut self, _rt: HostRuntime, piece: &[u8]) -> Result<(), Refused> {
         self.night = totals::feed(self.night, piece);
-        if self.night.tally.counted.refusal == 0 {
+        if self.night.hearer.counted.refusal == 0 {
             Ok(())
         } else {
             Err(Refused)
