@@ -1,7 +1,7 @@
 -- Clamping to a width: the result is in the range, it is the number itself exactly where that is in the range, beyond it is the end on
 -- that side, and the order is kept. Then the three answers of code that clamps a number of one width to another. Each law holds at every width.
 -- Assumes nothing.
-use mathlib.Core.Path.{◌≡◌, refl, sym, ap, ◌∙◌, subst}
+use mathlib.Core.Path.{◌≡◌, sym, ap, ◌∙◌, subst}
 use mathlib.Core.Logic.{◌↔◌}
 use Prim.Native.Nat.{◌-◌, ◌^◌}
 use native.Mathlib.Omega.{arith}
@@ -11,7 +11,7 @@ use lib.Pow.{pow_pos}
 use mir.Syntax.{Width}
 use mir.Val.{SFits, hbits, to_z, of_z}
 use mir.Facts.{to_z-of_z}
-use Rattle.std.specs.Int.{saturate_signed, int_max, int_min}
+use Rattle.std.specs.Int.{int_max, int_min}
 use Rattle.std.proofs.lemmas.Int.{ints, clamps}
 use Rattle.numbers.specs.Clamp.{clamp}
 use Rattle.numbers.proofs.Parts.{zarith}
@@ -54,12 +54,7 @@ clamp_mono w (pos a) (negsuc b) h = absurd (omega zarith)
 clamp_mono w (negsuc a) (pos b) h = omega zarith
 clamp_mono w (negsuc a) (negsuc b) h = omega zarith
 
--- ---- the library's words: the result of a saturating method, and a number kept between the two ends
-pub saturated : (w : Width) (z : ℤ) → saturate_signed w z ≡ clamp w z
-unfolding clamp
-saturated w (pos n) = refl
-saturated w (negsuc n) = refl
-
+-- ---- the library's `clamp` between the two ends
 pub between : (w : Width) (z : ℤ) → int_max (lowest w) (int_min z (highest w)) ≡ clamp w z
 unfolding clamp
 between w (pos n) = omega (arith, ints, clamps)

@@ -1,4 +1,5 @@
--- Two numbers of a width w, taken to a wider width v: what is computed of them there is exact, since it fits. Assumes nothing.
+-- Two numbers of a width w, taken to a wider width v: their sum and difference are exact there, since they fit. Then what a clamp gives back.
+-- Assumes nothing.
 use mathlib.Core.Path.{◌≡◌, sym, ap, ◌∙◌, subst}
 use Prim.Native.Nat.{suc, ◌*◌, ◌^◌, ◌<◌, ◌≤◌}
 use native.Mathlib.Omega.{arith}
@@ -9,16 +10,11 @@ use lib.Pow.{pow_mono}
 use mir.Syntax.{Width}
 use mir.Val.{SFits, hbits, to_z, of_z}
 use mir.Facts.{to_z-of_z}
-use Rattle.std.specs.Int.{saturate_signed, int_max, int_min}
+use Rattle.std.specs.Int.{int_max, int_min}
 use Rattle.numbers.specs.Clamp.{clamp}
-use Rattle.numbers.proofs.Clamp.{highest, lowest, clamp_fits, saturated, between}
+use Rattle.numbers.proofs.Clamp.{highest, lowest, clamp_fits, between}
 use Rattle.numbers.proofs.Parts.{zarith, of, plus, minus}
-use Rattle.numbers.proofs.Read.{back, wider, cast_back}
-
--- an operation f on `x as WIDE` and `y as WIDE` whose exact result fits: what it is there
-module _ (w v : Width) (t : T (leb (hbits w) (hbits v))) (f : ℤ → ℤ → ℤ) {a b : ℤ} (fa : SFits w a) (fb : SFits w b) (r : SFits v (f a b)) where
-  pub exact_back : to_z v (of_z v (f (to_z v (of_z v (to_z w (of_z w a)))) (to_z v (of_z v (to_z w (of_z w b)))))) ≡ f a b
-  exact_back = rw (cast_back w v t fa, cast_back w v t fb) (to_z-of_z r)
+use Rattle.numbers.proofs.Read.{back, wider}
 
 -- a sum and a difference fit one width up
 module _ (w v : Width) (t : T (ltb (hbits w) (hbits v))) {a b : ℤ} (fa : SFits w a) (fb : SFits w b) where
@@ -34,10 +30,6 @@ module _ (w v : Width) (t : T (ltb (hbits w) (hbits v))) {a b : ℤ} (fa : SFits
 -- a call of a clamp, whose argument is x
 pub clamped : (w : Width) {r x z : ℤ} → mag r < 2 ^ hbits w → r ≡ clamp w x → x ≡ z → to_z w (of_z w r) ≡ clamp w z
 clamped w h e i = back w h ∙ e ∙ ap (clamp w) i
-
--- a call of a saturating method of the library
-pub saturates : (w : Width) {r : ℤ} (x : ℤ) → mag r < 2 ^ hbits w → r ≡ saturate_signed w x → to_z w (of_z w r) ≡ clamp w x
-saturates w x h e = back w h ∙ e ∙ saturated w x
 
 -- the library's `clamp` between the ends of the width w, computed at a wider width v and taken down to w
 pub between_back : (v w : Width) → T (leb (hbits w) (hbits v)) → {r : ℤ} (x : ℤ) → r ≡ int_max (lowest w) (int_min x (highest w)) → to_z w (of_z w (to_z v (of_z v r))) ≡ clamp w x

@@ -1,4 +1,5 @@
 // The operations of GSM 06.10 on 16 and 32 bits. Each answers for every input, and answers what specs/Operations.antt defines under its name.
+// A cast to a smaller width stands where the number fits, which is proved: `try_from` would ask what to do where it does not.
 #![tactic(auto)]
 
 ghost use Rattle.std.specs.Prelude.{◌≡◌, ◌^◌, ℤ, nat_abs, pos, ◌+ℤ◌, ◌-ℤ◌, ◌*ℤ◌};
@@ -76,7 +77,7 @@ impl Word for i32 {
     }
 }
 
-// ---- sums and differences: the compiler makes one addition and a test of its overflow of the clamp, and several steps of the library's `saturating_add`
+// ---- sums and differences: of a clamp the compiler makes one addition and a test for overflow, and of the library's `saturating_add` twice as much
 
 fn sum<W: Word>(x: W, y: W) -> W
     ensures { W.value result ≡ clamp W.width (W.value x +ℤ W.value y) }
@@ -90,24 +91,28 @@ fn difference<W: Word>(x: W, y: W) -> W
     W::nearest(i64::from(x.exact()) - i64::from(y.exact()))
 }
 
+#[tactic(auto, using(numbers::proofs::Read::zreads), unfolding(crate::specs::Operations::add))]
 pub fn add(x: i16, y: i16) -> i16
     ensures { result ≡ op.add x y }
 {
     sum(x, y)
 }
 
+#[tactic(auto, using(numbers::proofs::Read::zreads), unfolding(crate::specs::Operations::sub))]
 pub fn sub(x: i16, y: i16) -> i16
     ensures { result ≡ op.sub x y }
 {
     difference(x, y)
 }
 
+#[tactic(auto, using(numbers::proofs::Read::zreads), unfolding(crate::specs::Operations::l_add))]
 pub fn l_add(x: i32, y: i32) -> i32
     ensures { result ≡ op.l_add x y }
 {
     sum(x, y)
 }
 
+#[tactic(auto, using(numbers::proofs::Read::zreads), unfolding(crate::specs::Operations::l_sub))]
 pub fn l_sub(x: i32, y: i32) -> i32
     ensures { result ≡ op.l_sub x y }
 {
@@ -124,6 +129,7 @@ pub fn product(x: i16, y: i16) -> i32
 }
 
 // The product in 32768ths, rounded down.
+#[tactic(auto, using(numbers::proofs::Read::zreads, crate::proofs::Shift::right_back), unfolding(crate::specs::Operations::mult))]
 pub fn mult(x: i16, y: i16) -> i16
     ensures { result ≡ op.mult x y }
 {
@@ -154,6 +160,7 @@ pub fn magnitude(x: i32) -> u32
 }
 
 // The magnitude; that of -32768 is 32767.
+#[tactic(auto, using(numbers::proofs::Read::zreads), unfolding(crate::specs::Operations::abs, numbers::specs::Clamp::clamp))]
 pub fn abs(x: i16) -> i16
     ensures { result ≡ op.abs x }
 {
@@ -161,6 +168,7 @@ pub fn abs(x: i16) -> i16
 }
 
 // The same of a long variable; that of -2147483648 is 2147483647.
+#[tactic(auto, using(numbers::proofs::Read::zreads), unfolding(crate::specs::Operations::l_abs, numbers::specs::Clamp::clamp))]
 pub fn l_abs(x: i32) -> i32
     ensures { result ≡ op.l_abs x }
 {
@@ -170,6 +178,7 @@ pub fn l_abs(x: i32) -> i32
 // ---- shifts: to the left it drops the bits pushed out, to the right it rounds down, and a negative amount is the opposite shift
 
 // To the left by n.
+#[tactic(auto, using(numbers::proofs::Read::zreads, crate::proofs::Shift::left_of, crate::proofs::Shift::left_opposite))]
 fn left<W: Word>(x: W, n: i16) -> W
     ensures { W.value result ≡ op.shift_left W.width (W.value x) n }
 {
@@ -178,6 +187,7 @@ fn left<W: Word>(x: W, n: i16) -> W
 }
 
 // To the right by n.
+#[tactic(auto, using(numbers::proofs::Read::zreads, crate::proofs::Shift::right_of, crate::proofs::Shift::right_opposite))]
 fn right<W: Word>(x: W, n: i16) -> W
     ensures { W.value result ≡ op.shift_right W.width (W.value x) n }
 {
@@ -217,6 +227,7 @@ pub fn short(x: i32) -> i16
 }
 
 // The top half of a long variable shifted to the left.
+#[tactic(auto, using(numbers::proofs::Read::zreads, crate::proofs::Top::top_back), unfolding(crate::specs::Operations::shift_right))]
 pub fn topped(x: i32, n: i16) -> i16
     ensures { result ≡ op.topped x n }
 {

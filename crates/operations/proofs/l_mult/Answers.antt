@@ -30,6 +30,14 @@ returns-then-p c =
     let e : c.product-p.result ≡ pos 1073741824 = same_bits w32 (ranged w32 c.product-p.result c.product-p.type_inv) (abs_fits w32 (pos 1073741824) (omega arith)) c.if-p.true in
     ap (λ (z : ℤ). clamp w32 (z *ℤ pos 2)) (sym e ∙ is)
 
+pub overflow_mul-result : goal.overflow_mul-result
+overflow_mul-result c =
+    let f = c.ranges.x in
+    let g = c.ranges.y in
+    let is : c.product-p.result ≡ c.args.x *ℤ c.args.y = simp zreads at c.product-p.ensures in
+    let h = ranged w32 c.product-p.result c.product-p.type_inv in
+    simp zreads (double_fits c.product-p.result (rw is (product_small c.args.x c.args.y f g)) (other_bits w32 c.if-p.false))
+
 pub returns-else-p : goal.returns-else-p
 unfolding l_mult
 returns-else-p c =

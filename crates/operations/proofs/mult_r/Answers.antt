@@ -18,6 +18,16 @@ rounded x y f g =
     let small = abs-*-le x y (2 ^ 15) (2 ^ 15) (fits_abs w16 x f) (fits_abs w16 y g) in
     abs_fits w32 (x *ℤ y +ℤ pos 16384) (omega (arith, abs-+ (x *ℤ y) (pos 16384), small))
 
+pub overflow_add-product : goal.overflow_add-product
+overflow_add-product c =
+    let f = c.ranges.x in
+    let g = c.ranges.y in
+    let z = c.product.result in
+    let is : z ≡ c.args.x *ℤ c.args.y = simp zreads at c.product.ensures in
+    let h = ranged w32 z c.product.type_inv in
+    let r : SFits w32 (z +ℤ pos 16384) = rw is (rounded c.args.x c.args.y f g) in
+    simp zreads r
+
 pub returns : goal.returns
 unfolding mult_r
 returns c =
