@@ -22,7 +22,6 @@ use Rattle.pieces.specs.Lines.{plain_of}
 use Rattle.runner.specs.declared.Said.{Said}
 use Rattle.runner.specs.Said.{stepped_of, denied_of, text_of}
 use Rattle.card.specs.Card.{Order, call, reset, channel_of, in_bank, called_of, number_only, answer_of, bank_after}
-use Rattle.card.specs.Card as card
 use Rattle.card.proofs.Orders.{answer_out, bank_out, call_answer, call_bank, reset_answer, reset_bank}
 use Rattle.card.proofs.Shared.{inside}
 use Rattle.exchange.specs.declared.Named.{Named}
@@ -122,7 +121,7 @@ module _ (bank : List State) (l : List ℕ) (size : length bank ≡ channels) wh
   named r d = record { refusal = 0; resets = r; channel = c; acf = d.acf; lags = d.lags; scale = d.scale }
 
   call_steps : orderly l ≡ true → in_bank channels c ≡ true → calls_of l ≡ true → Steps bank l (named false (accepted_of (frame_of (drop 2 l))))
-  unfolding said_of stepped_of IF◌THEN◌ELSE◌ accepted_of replied_of card.stepped_of called_of answer_to frame_at
+  unfolding said_of stepped_of IF◌THEN◌ELSE◌ accepted_of replied_of called_of answer_to frame_at
   call_steps t u v =
       let o = order_call l v in
       let h = in_bank_lem true u in

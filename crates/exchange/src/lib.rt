@@ -141,21 +141,9 @@ fn answer(s: State, n: Named) -> Said
         return kept(n.refusal, s);
     }
     if n.resets {
-        let fresh = State::reset();
-        return kept(0, fresh);
+        return kept(0, State::reset());
     }
-    let acf = n.acf;
-    let lags = n.lags;
-    let r = detector::step(&acf, &lags, n.scale, s);
-    let next = r.next;
-    Said {
-        reply: Reply {
-            refusal: r.refusal,
-            vad: r.vad,
-            vvad: r.vvad,
-        },
-        next,
-    }
+    runner::stepped(detector::step(&n.acf, &n.lags, n.scale, s))
 }
 
 // Where a line names no channel, the state of channel 0 is taken out, and stored as it was.

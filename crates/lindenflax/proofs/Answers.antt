@@ -12,7 +12,7 @@ use Rattle.rows.specs.Choice.{IF◌THEN◌ELSE◌}
 use Rattle.rows.specs.Rows.{row}
 use Rattle.rows.proofs.Choice.{both, and_left, and_right, either}
 use Rattle.frames.specs.Frame.{Direction, samples_ok}
-use Rattle.detector.specs.declared.Answer.{Answer}
+use Rattle.detector.specs.Answer.{Answer}
 use Rattle.detector.specs.Step.{answer_for}
 use Rattle.detector.proofs.Table.{accepted_0}
 use Rattle.detector.proofs.Keeps.{next_pointers}

@@ -6,15 +6,18 @@ ghost use Rattle.std.specs.Prelude.{◌≡◌, true, ◌++◌, ◌+◌, ◌<◌,
 ghost use Rattle.std.specs.Int.{w16};
 ghost use Rattle.std.proofs.Common.{SFits};
 ghost use Rattle.numbers.specs.Sum.{at};
-ghost use Rattle.frames.specs.Frame.{up, down, direction_of};
+ghost use Rattle.refusals.specs.Refusal.{number_in};
+ghost use Rattle.frames.specs.Frame.{up, down, samples_ok};
+ghost use Rattle.frames.specs.Direction.{direction_in};
 ghost use Rattle.state.specs.Valid.{Between};
 ghost use Rattle.lindenflax.specs.Run as library;
 ghost use Rattle.lindenflax.specs.Lines as trace;
 
-use detector::{Answer, frame};
-use frames::{LAGS, NUMBERS, SAMPLES};
+use detector::frame;
+use frames::{Direction, LAGS, NUMBERS};
 use lines::{read, write};
 use pairs::Pair;
+use refusals::{Refusal, number_in};
 use rows::{all_within, within};
 use state::State;
 
@@ -261,76 +264,46 @@ fn put_answer(answer: &mut [i32], vad: bool, vvad: bool, acf0: Pair, pvad: Pair)
     answer[5] = pvad.m as i32;
 }
 
-// The first of 1, 8, 5 that refuses what is lent, or 0; `samples` says that a frame has those of its direction.
-fn lent(samples: bool, acf: &[i32], lags: &[u16], state: &[i32], answer: &[i32]) -> u8
-    ensures { result ≡ library.lent_number samples acf.now lags.now state.now answer.now }
+// Whether what is lent to a step can be read: the lengths, the samples of a downlink frame, and the numbers of the state, in this order.
+fn lent(
+    direction: Direction<'_>,
+    acf: &[i32],
+    lags: &[u16],
+    state: &[i32],
+    answer: &[i32],
+) -> Result<(), Refusal>
+    ensures { number_in result ≡ library.lent_number (samples_ok (direction_in direction.entry)) acf.now lags.now state.now answer.now }
 {
-    if acf.len() != NUMBERS {
-        return 1;
+    if acf.len() != NUMBERS || lags.len() != LAGS || state.len() != RUN || answer.len() != ANSWER {
+        return Err(Refusal::Length);
     }
-    if lags.len() != LAGS {
-        return 1;
-    }
-    if state.len() != RUN {
-        return 1;
-    }
-    if answer.len() != ANSWER {
-        return 1;
-    }
-    if !samples {
-        return 8;
+    if !direction.samples_ok() {
+        return Err(Refusal::Samples);
     }
     if !narrow(taken(state)) {
-        return 5;
+        return Err(Refusal::State);
     }
-    0
+    Ok(())
 }
 
-// What follows a step in either direction: an accepted frame's next state and its answer go into the lent runs.
-fn store(a: Answer, state: &mut [i32], answer: &mut [i32]) -> u8
-    requires { (length state.old ≡ library.RUN) × (length answer.old ≡ library.ANSWER) × (a.refusal ≡ 0 → (a.next.ptsacf ≤ 27) × (a.next.ptsav0 ≤ 27)) }
-    ensures value { result ≡ a.refusal }
-    ensures state_after { state.new ≡ library.run_after a.refusal a state.old }
-    ensures answer_after { answer.new ≡ library.answer_after a.refusal a answer.old }
-{
-    let number = a.refusal;
-    if number != 0 {
-        return number;
-    }
-    let next = a.next;
-    let acf0 = a.acf0;
-    let pvad = a.pvad;
-    put(state, packed(next));
-    put_answer(answer, a.vad, a.vvad, acf0, pvad);
-    0
-}
-
-// One frame in either direction.
+// One frame: an accepted one's next state and its answer go into the lent runs.
 fn stepped(
-    downlink: bool,
+    direction: Direction<'_>,
     acf: &[i32],
     lags: &[u16],
     scale: i16,
-    samples: &[i16],
     state: &mut [i32],
     answer: &mut [i32],
-) -> u8
-    ensures value { result ≡ library.step_number (direction_of downlink samples.now) acf.now lags.now scale state.old answer.old }
-    ensures state_after { state.new ≡ library.step_run (direction_of downlink samples.now) acf.now lags.now scale state.old answer.old }
-    ensures answer_after { answer.new ≡ library.step_answer (direction_of downlink samples.now) acf.now lags.now scale state.old answer.old }
+) -> Result<(), Refusal>
+    ensures value { number_in result ≡ library.step_number (direction_in direction.entry) acf.now lags.now scale state.old answer.old }
+    ensures state_after { state.new ≡ library.step_run (direction_in direction.entry) acf.now lags.now scale state.old answer.old }
+    ensures answer_after { answer.new ≡ library.step_answer (direction_in direction.entry) acf.now lags.now scale state.old answer.old }
 {
-    let refused = lent(
-        !downlink | (samples.len() == SAMPLES),
-        acf,
-        lags,
-        state,
-        answer,
-    );
-    if refused != 0 {
-        return refused;
-    }
-    let a = frame(downlink, acf, lags, scale, samples, unpacked(taken(state)));
-    store(a, state, answer)
+    lent(direction, acf, lags, state, answer)?;
+    let a = frame(direction, acf, lags, scale, unpacked(taken(state)))?;
+    put(state, packed(a.next));
+    put_answer(answer, a.vad, a.vvad, a.acf0, a.pvad);
+    Ok(())
 }
 
 // ---- the interface
@@ -361,8 +334,7 @@ pub extern "C" fn lindenflax_step(
     ensures state_after { state.new ≡ library.step_run up acf.now lags.now scale state.old answer.old }
     ensures answer_after { answer.new ≡ library.step_answer up acf.now lags.now scale state.old answer.old }
 {
-    let none = [0i16; 1];
-    stepped(false, acf, lags, scale, &none[..0], state, answer)
+    number_in(stepped(Direction::Uplink, acf, lags, scale, state, answer))
 }
 
 // One frame on the downlink: the same, and its 160 samples.
@@ -379,7 +351,14 @@ pub extern "C" fn lindenflax_downlink(
     ensures state_after { state.new ≡ library.step_run (down samples.now) acf.now lags.now scale state.old answer.old }
     ensures answer_after { answer.new ≡ library.step_answer (down samples.now) acf.now lags.now scale state.old answer.old }
 {
-    stepped(true, acf, lags, scale, samples, state, answer)
+    number_in(stepped(
+        Direction::Downlink(samples),
+        acf,
+        lags,
+        scale,
+        state,
+        answer,
+    ))
 }
 
 // A trace line read: nine autocorrelations, four lags and a run of one for the scale, or the first of 1, 6, 2, 3, 4 that refuses it.

@@ -2,11 +2,13 @@
 #![tactic(auto)]
 
 ghost use Rattle.std.specs.Prelude.{◌≡◌, ◌<◌, length};
+ghost use Rattle.detector.specs.Result.{answer_of};
 ghost use Rattle.listener.specs.Said as one;
 ghost use Rattle.listener.specs.Hears as line;
 ghost use Rattle.listener.specs.Fed as piece;
 ghost use Rattle.listener.specs.Laws as law;
 
+use detector::{Accepted, Refused};
 use player::{Hearer, Player};
 use state::State;
 
@@ -44,40 +46,50 @@ pub struct Said {
 
 // ---- one line
 
+// A line that is refused keeps the state, and its flag.
+fn denied(refusal: u8, s: State) -> Said
+    ensures { result ≡ one.denied_of refusal s }
+{
+    Said {
+        reply: Reply {
+            refusal,
+            vad: false,
+            vvad: false,
+            tone: s.tone,
+        },
+        next: s,
+    }
+}
+
+// A line whose frame went to the detector.
+fn stepped(r: Result<Accepted, Refused>) -> Said
+    ensures { result ≡ one.stepped_of (answer_of r) }
+{
+    match r {
+        Ok(a) => Said {
+            reply: Reply {
+                refusal: 0,
+                vad: a.vad,
+                vvad: a.vvad,
+                tone: a.next.tone,
+            },
+            next: a.next,
+        },
+        Err(r) => denied(r.refusal.number(), r.state),
+    }
+}
+
 // What a line, with its line feed, and the bytes of its frame's samples are answered.
 pub fn answer(s: State, block: &[u8], line: &[u8]) -> Said
     ensures { result ≡ one.said_of s block.now line.now }
 {
     let d = lines::decode(line);
-    let n = d.refusal;
-    if n != 0 {
-        return Said {
-            reply: Reply {
-                refusal: n,
-                vad: false,
-                vvad: false,
-                tone: s.tone,
-            },
-            next: s,
-        };
+    if d.refusal != 0 {
+        return denied(d.refusal, s);
     }
     let frame = samples::read(block);
     let sof = frame.sof;
-    let count = frame.count;
-    let acf = d.acf;
-    let lags = d.lags;
-    let scale = d.scale;
-    let r = detector::downlink(&acf, &lags, scale, &sof[..count], s);
-    let next = r.next;
-    Said {
-        reply: Reply {
-            refusal: r.refusal,
-            vad: r.vad,
-            vvad: r.vvad,
-            tone: next.tone,
-        },
-        next,
-    }
+    stepped(detector::downlink(&d.acf, &d.lags, d.scale, &sof[..frame.count], s))
 }
 
 // A flag as a character.

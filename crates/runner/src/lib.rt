@@ -2,12 +2,14 @@
 #![tactic(auto)]
 
 ghost use Rattle.std.specs.Prelude.{◌≡◌, length};
+ghost use Rattle.detector.specs.Result.{answer_of};
 ghost use Rattle.runner.specs.Said as one;
 ghost use Rattle.runner.specs.Hears as line;
 ghost use Rattle.runner.specs.Fed as piece;
 ghost use Rattle.runner.specs.Laws as law;
 
 use counts::Reply;
+use detector::{Accepted, Refused};
 use player::{Hearer, Player};
 use state::State;
 
@@ -36,35 +38,46 @@ pub struct Said {
 
 // ---- one line
 
+// A line that is refused.
+fn denied(refusal: u8, s: State) -> Said
+    ensures { result ≡ one.denied_of refusal s }
+{
+    Said {
+        reply: Reply {
+            refusal,
+            vad: false,
+            vvad: false,
+        },
+        next: s,
+    }
+}
+
+// A line whose frame went to the detector.
+pub fn stepped(r: Result<Accepted, Refused>) -> Said
+    ensures { result ≡ one.stepped_of (answer_of r) }
+{
+    match r {
+        Ok(a) => Said {
+            reply: Reply {
+                refusal: 0,
+                vad: a.vad,
+                vvad: a.vvad,
+            },
+            next: a.next,
+        },
+        Err(r) => denied(r.refusal.number(), r.state),
+    }
+}
+
 // What a line, with its line feed, is answered.
 pub fn answer(s: State, line: &[u8]) -> Said
     ensures { result ≡ one.said_of s line.now }
 {
     let d = lines::decode(line);
-    let n = d.refusal;
-    if n != 0 {
-        return Said {
-            reply: Reply {
-                refusal: n,
-                vad: false,
-                vvad: false,
-            },
-            next: s,
-        };
+    if d.refusal != 0 {
+        return denied(d.refusal, s);
     }
-    let acf = d.acf;
-    let lags = d.lags;
-    let scale = d.scale;
-    let r = detector::step(&acf, &lags, scale, s);
-    let next = r.next;
-    Said {
-        reply: Reply {
-            refusal: r.refusal,
-            vad: r.vad,
-            vvad: r.vvad,
-        },
-        next,
-    }
+    stepped(detector::step(&d.acf, &d.lags, d.scale, s))
 }
 
 // A flag as a character.

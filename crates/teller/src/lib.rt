@@ -3,16 +3,18 @@
 
 ghost use Rattle.std.specs.Prelude.{◌≡◌, ◌+◌, ◌≤◌, length, drop};
 ghost use Rattle.pieces.specs.Put.{put_of};
+ghost use Rattle.why.specs.Result.{explained_in};
 ghost use Rattle.teller.specs.Words as words;
 ghost use Rattle.teller.specs.Decimal.{decimal_of};
 ghost use Rattle.teller.specs.Run as run;
 ghost use Rattle.teller.specs.Laws as law;
 ghost use Rattle.teller.specs.Fed as piece;
 
+use frames::Direction;
 use operations::magnitude;
 use player::{Hearer, Player};
 use threshold::Way;
-use why::{Explainer, Flag, Why};
+use why::{Denied, Explained, Explainer, Flag, Why};
 
 // The most bytes that a line is told in: 4294967295 hangover 4294967295 waiting 8, and a line feed.
 const MOST: usize = 41;
@@ -50,35 +52,50 @@ struct Written {
 
 // ---- one line
 
+// What the explainer's result tells, and the run after it.
+fn sent(downlink: bool, r: Result<Explained, Denied>) -> Told
+    ensures { result ≡ run.sent_of downlink (explained_in r) }
+{
+    match r {
+        Ok(x) => Told {
+            why: Why::Because(x.reasons),
+            next: Hearing {
+                downlink,
+                explainer: x.next,
+            },
+        },
+        Err(d) => Told {
+            why: Why::Refused(d.refusal.number()),
+            next: Hearing {
+                downlink,
+                explainer: d.explainer,
+            },
+        },
+    }
+}
+
 // Explains the frame of a line, with its line feed; `block` are the bytes of its samples.
 pub fn tell(h: Hearing, block: &[u8], line: &[u8]) -> Told
     ensures { result ≡ run.told_of h block.now line.now }
 {
     let d = lines::decode(line);
-    let n = d.refusal;
-    if n != 0 {
+    if d.refusal != 0 {
         return Told {
-            why: Why::Refused(n),
+            why: Why::Refused(d.refusal),
             next: h,
         };
     }
-    let acf = d.acf;
-    let lags = d.lags;
-    let scale = d.scale;
-    let e = h.explainer;
     let heard = samples::read(block);
-    let count = heard.count;
     let sof = heard.sof;
-    let r = why::explain(h.downlink, e, &acf, &lags, scale, &sof[..count]);
-    let why = r.why;
-    let explainer = r.next;
-    Told {
-        why,
-        next: Hearing {
-            downlink: h.downlink,
-            explainer,
-        },
-    }
+    let direction = if h.downlink {
+        Direction::Downlink(&sof[..heard.count])
+    } else {
+        Direction::Uplink
+    };
+    sent(
+        h.downlink,
+        why::explain(direction, h.explainer, &d.acf, &d.lags, d.scale),
+    )
 }
 
 // ---- its text

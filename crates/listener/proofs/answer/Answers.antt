@@ -4,6 +4,7 @@ use mathlib.Core.Path.{◌≡◌, sym, ap, ap₂, ◌∙◌}
 use mathlib.Core.List.{List}
 use Prim.Native.Nat.{ℕ, ◌≤◌}
 use native.Mathlib.Omega.{arith}
+use Rattle.detector.specs.Result.{answer_of}
 use lib.IntN.{ℤ}
 use lib.ListN.{length, take}
 use lib.Seq.{length-take-le}
@@ -18,14 +19,12 @@ use Rattle.samples.proofs.Frame.{read_is, read_most}
 use Rattle.listener.specs.Said.{stepped_of, denied_of}
 use Rattle.listener.proofs.Steps.{said_no, said_ok}
 use Rattle.listener.proofs.answer.Goals as goal
-use Rattle.listener.proofs.answer.Goals.{After-downlink-r, After-read-frame, Else-n-ne0}
+use Rattle.listener.proofs.answer.Goals.{After-downlink, After-read-frame}
 
-pub returns-then-n-ne0 : goal.returns-then-n-ne0
-unfolding denied_of
-returns-then-n-ne0 c =
-    let d = c.decode-d.ensures in
-    let n = ap (λ (x : Decoded). x.refusal) d in
-    ap (λ (k : ℕ). denied_of k c.args.s) n ∙ sym (said_no c.args.s c.args.block.now c.args.line.now (λ z. c.if-n-ne0.true (n ∙ z)))
+pub returns-then-d-ne0 : goal.returns-then-d-ne0
+returns-then-d-ne0 c =
+    let n = ap (λ (x : Decoded). x.refusal) c.decode-d.ensures in
+    c.denied.ensures ∙ ap (λ (k : ℕ). denied_of k c.args.s) n ∙ sym (said_no c.args.s c.args.block.now c.args.line.now (λ z. c.if-d-ne0.true (n ∙ z)))
 
 -- no more samples than the frame has
 fits : (c : After-read-frame) → c.read-frame.result.count ≤ length c.read-frame.result.sof
@@ -42,24 +41,20 @@ pub slice_bounds-downlink-end-3 : goal.slice_bounds-downlink-end-3
 slice_bounds-downlink-end-3 c = sym (length-take-le _ _ (fits (goal.at.slice_bounds-downlink-end-3 c).After-read-frame))
 
 -- the detector's answer to what was read
-down_is : (c : After-downlink-r)
-    → c.downlink-r.result
+down_is : (c : After-downlink)
+    → answer_of c.downlink.result
     ≡ downlink_of c.decode-d.result.acf c.decode-d.result.lags c.decode-d.result.scale (take c.read-frame.result.count c.read-frame.result.sof) c.args.s
-down_is c = let f : SFits w16 c.decode-d.result.scale = search rules in simp zreads at c.downlink-r.ensures
-
-zero_is : (c : Else-n-ne0) → c.decode-d.result.refusal ≡ 0
-zero_is c = omega arith
+down_is c = let f : SFits w16 c.decode-d.result.scale = search rules in simp zreads at c.downlink.ensures
 
 sof_is : (c : After-read-frame) → take c.read-frame.result.count c.read-frame.result.sof ≡ sof_of c.args.block.now
 unfolding sof_of
 sof_is c = ap (λ (x : Samples). take x.count x.sof) c.read-frame.ensures ∙ read_is _
 
 pub returns : goal.returns
-unfolding stepped_of
 returns c =
     let d = c.decode-d.ensures in
     let s = c.args.s in
     let n = ap (λ (x : Decoded). x.refusal) d in
-    let z = zero_is (goal.at.returns c).Else-n-ne0 in
-    ap stepped_of (down_is (goal.at.returns c).After-downlink-r ∙ ap₂ (λ (x : Decoded) (y : List ℤ). downlink_of x.acf x.lags x.scale y s) d (sof_is (goal.at.returns c).After-read-frame))
-    ∙ sym (said_ok s c.args.block.now c.args.line.now (sym n ∙ z))
+    c.stepped.ensures
+    ∙ ap stepped_of (down_is (goal.at.returns c).After-downlink ∙ ap₂ (λ (x : Decoded) (y : List ℤ). downlink_of x.acf x.lags x.scale y s) d (sof_is (goal.at.returns c).After-read-frame))
+    ∙ sym (said_ok s c.args.block.now c.args.line.now (sym n ∙ c.if-d-ne0.false))

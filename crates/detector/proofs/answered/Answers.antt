@@ -1,4 +1,4 @@
--- `detector::accepted` runs the clauses in their order: each call gives what its definition says of what the calls before it gave. Assumes nothing.
+-- `detector::answered` runs the clauses in their order: each call gives what its definition says of what the calls before it gave. Assumes nothing.
 use borrow.Author.Rules.{rules}
 use mathlib.Core.Path.{◌≡◌, ◌∙◌}
 use mathlib.Core.Bool.{Bool}
@@ -20,10 +20,10 @@ use Rattle.hangover.specs.declared.Hung.{Hung}
 use Rattle.hangover.specs.Hangover.{hangover_of}
 use Rattle.state.specs.declared.State.{State}
 use Rattle.detector.specs.declared.Middle.{Middle}
-use Rattle.detector.specs.declared.Answer.{Answer}
+use Rattle.detector.specs.Answer.{Answer}
 use Rattle.detector.specs.Step.{spectral_of, accepted_of}
-use Rattle.detector.proofs.accepted.Goals as goal
-use Rattle.detector.proofs.accepted.Goals.{After-adapt-k, After-energy-e, After-hangover-h, After-ptch, After-spectral-m, Start}
+use Rattle.detector.proofs.answered.Goals as goal
+use Rattle.detector.proofs.answered.Goals.{After-adapt-k, After-energy-e, After-hangover-h, After-ptch, After-spectral-m, Start}
 
 -- the answer, from what the clauses gave, one equation for each and for each number that is read back
 assembled : (tone found : Bool) (l_acf : List ℤ) (lags : List ℕ) (scalvad : ℤ) (s : State) {e : Energies} {m : Middle} {p v : Bool} {k : Kept} {h : Hung} {n d a b r o w : ℤ}
