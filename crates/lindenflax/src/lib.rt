@@ -58,46 +58,38 @@ fn narrow(run: [i32; RUN]) -> bool
     within(0, 1, run[84])
 }
 
+// The N numbers of a run from `first` on.
+fn part<const N: usize>(run: &[i32; RUN], first: usize) -> [i32; N]
+    requires { first + N ≤ library.RUN }
+    ensures { result ≡ library.part first N run.now }
+{
+    let mut out = [0i32; N];
+    out.copy_from_slice(&run[first..first + N]);
+    out
+}
+
+// A number that is one of 16 bits.
+fn short(x: i32) -> i16
+    requires { SFits w16 x }
+    ensures { result ≡ x }
+{
+    x as i16
+}
+
 // The filter in a run.
-fn filter(run: [i32; RUN]) -> [i16; 9]
-    requires { library.narrow_of run ≡ true }
-    ensures { result ≡ library.part 0 9 run }
+fn filter(run: &[i32; RUN]) -> [i16; 9]
+    requires { library.narrow_of run.now ≡ true }
+    ensures { result ≡ library.part 0 9 run.now }
 {
-    let mut out = [0i16; 9];
-    for i in 0..9 {
-        out[i] = run[i] as i16;
-    }
-    out
-}
-
-// The three frames in a run.
-fn frames(run: [i32; RUN]) -> [i32; 27]
-    ensures { result ≡ library.part 10 27 run }
-{
-    let mut out = [0i32; 27];
-    for i in 0..27 {
-        out[i] = run[10 + i];
-    }
-    out
-}
-
-// The four averages in a run.
-fn sums(run: [i32; RUN]) -> [i32; 36]
-    ensures { result ≡ library.part 38 36 run }
-{
-    let mut out = [0i32; 36];
-    for i in 0..36 {
-        out[i] = run[38 + i];
-    }
-    out
+    part(run, 0).map(short)
 }
 
 // The number at i, which is one of 16 bits.
-fn short_at(run: [i32; RUN], i: usize) -> i16
-    requires { (i < library.RUN) × SFits w16 (at run i) }
-    ensures { result ≡ at run i }
+fn short_at(run: &[i32; RUN], i: usize) -> i16
+    requires { (i < library.RUN) × SFits w16 (at run.now i) }
+    ensures { result ≡ at run.now i }
 {
-    run[i] as i16
+    short(run[i])
 }
 
 // The pointer at i.
@@ -120,10 +112,7 @@ fn last_lag(run: [i32; RUN]) -> u16
 fn flag(x: i32) -> bool
     ensures { result ≡ library.flag_of x }
 {
-    if x == 1 {
-        return true;
-    }
-    false
+    x == 1
 }
 
 // The state in a run whose numbers fit.
@@ -131,26 +120,23 @@ fn unpacked(run: [i32; RUN]) -> State
     requires { library.narrow_of run ≡ true }
     ensures { result ≡ library.state_of run }
 {
-    let rvad = filter(run);
-    let sacf = frames(run);
-    let sav0 = sums(run);
     State {
-        rvad: rvad,
-        normrvad: short_at(run, 9),
-        sacf: sacf,
+        rvad: filter(&run),
+        normrvad: short_at(&run, 9),
+        sacf: part(&run, 10),
         ptsacf: pointer_at(run, 37),
-        sav0: sav0,
+        sav0: part(&run, 38),
         ptsav0: pointer_at(run, 74),
         lastdm: run[75],
         thvad: Pair {
-            e: short_at(run, 76),
-            m: short_at(run, 77),
+            e: short_at(&run, 76),
+            m: short_at(&run, 77),
         },
-        adaptcount: short_at(run, 78),
-        burstcount: short_at(run, 79),
-        hangcount: short_at(run, 80),
-        oldlagcount: short_at(run, 81),
-        veryoldlagcount: short_at(run, 82),
+        adaptcount: short_at(&run, 78),
+        burstcount: short_at(&run, 79),
+        hangcount: short_at(&run, 80),
+        oldlagcount: short_at(&run, 81),
+        veryoldlagcount: short_at(&run, 82),
         oldlag: last_lag(run),
         tone: flag(run[84]),
     }
@@ -158,36 +144,13 @@ fn unpacked(run: [i32; RUN]) -> State
 
 // ---- a run from a state
 
-// A run with the filter in its place.
-fn with_filter(run: [i32; RUN], rvad: [i16; 9]) -> [i32; RUN]
-    ensures { result ≡ take 0 run ++ rvad ++ drop (0 + 9) run }
+// A run with N numbers in place of those from `first` on.
+fn with_part<const N: usize>(run: [i32; RUN], first: usize, numbers: &[i32; N]) -> [i32; RUN]
+    requires { first + N ≤ library.RUN }
+    ensures { result ≡ take first run ++ numbers.now ++ drop (first + N) run }
 {
     let mut out = run;
-    for i in 0..9 {
-        out[i] = rvad[i] as i32;
-    }
-    out
-}
-
-// A run with the three frames in their place.
-fn with_frames(run: [i32; RUN], sacf: [i32; 27]) -> [i32; RUN]
-    ensures { result ≡ take 10 run ++ sacf ++ drop (10 + 27) run }
-{
-    let mut out = run;
-    for i in 0..27 {
-        out[10 + i] = sacf[i];
-    }
-    out
-}
-
-// A run with the four averages in their place.
-fn with_sums(run: [i32; RUN], sav0: [i32; 36]) -> [i32; RUN]
-    ensures { result ≡ take 38 run ++ sav0 ++ drop (38 + 36) run }
-{
-    let mut out = run;
-    for i in 0..36 {
-        out[38 + i] = sav0[i];
-    }
+    out[first..first + N].copy_from_slice(numbers);
     out
 }
 
@@ -195,7 +158,7 @@ fn with_sums(run: [i32; RUN], sav0: [i32; 36]) -> [i32; RUN]
 fn bit(flag: bool) -> i32
     ensures { result ≡ library.bit_of flag }
 {
-    if flag { 1 } else { 0 }
+    i32::from(flag)
 }
 
 // A state as a run.
@@ -203,28 +166,28 @@ fn packed(s: State) -> [i32; RUN]
     requires { (s.ptsacf ≤ 27) × (s.ptsav0 ≤ 27) }
     ensures { result ≡ library.run_of s }
 {
-    let rvad = s.rvad;
-    let sacf = s.sacf;
-    let sav0 = s.sav0;
-    let thvad = s.thvad;
-    let lastdm = s.lastdm;
-    let a = with_filter([0i32; RUN], rvad);
-    let b = with_frames(a, sacf);
-    let mut out = with_sums(b, sav0);
-    out[9] = s.normrvad as i32;
-    out[37] = s.ptsacf as i32;
-    out[74] = s.ptsav0 as i32;
-    out[75] = lastdm;
-    out[76] = thvad.e as i32;
-    out[77] = thvad.m as i32;
-    out[78] = s.adaptcount as i32;
-    out[79] = s.burstcount as i32;
-    out[80] = s.hangcount as i32;
-    out[81] = s.oldlagcount as i32;
-    out[82] = s.veryoldlagcount as i32;
-    out[83] = s.oldlag as i32;
-    out[84] = bit(s.tone);
-    out
+    let run = with_part([0i32; RUN], 0, &s.rvad.map(i32::from));
+    let run = with_part(run, 9, &[i32::from(s.normrvad)]);
+    let run = with_part(run, 10, &s.sacf);
+    let run = with_part(run, 37, &[s.ptsacf as i32]);
+    let run = with_part(run, 38, &s.sav0);
+    with_part(
+        run,
+        74,
+        &[
+            s.ptsav0 as i32,
+            s.lastdm,
+            i32::from(s.thvad.e),
+            i32::from(s.thvad.m),
+            i32::from(s.adaptcount),
+            i32::from(s.burstcount),
+            i32::from(s.hangcount),
+            i32::from(s.oldlagcount),
+            i32::from(s.veryoldlagcount),
+            i32::from(s.oldlag),
+            bit(s.tone),
+        ],
+    )
 }
 
 // ---- what is lent
@@ -235,9 +198,7 @@ fn taken(state: &[i32]) -> [i32; RUN]
     ensures { result ≡ state.now }
 {
     let mut out = [0i32; RUN];
-    for i in 0..RUN {
-        out[i] = state[i];
-    }
+    out.copy_from_slice(state);
     out
 }
 
@@ -246,9 +207,7 @@ fn put(state: &mut [i32], run: [i32; RUN])
     requires { length state.old ≡ library.RUN }
     ensures { state.new ≡ run }
 {
-    for i in 0..RUN {
-        state[i] = run[i];
-    }
+    state.copy_from_slice(&run);
 }
 
 // Stores an answer into a lent run.
@@ -256,12 +215,14 @@ fn put_answer(answer: &mut [i32], vad: bool, vvad: bool, acf0: Pair, pvad: Pair)
     requires { length answer.old ≡ library.ANSWER }
     ensures { answer.new ≡ library.answer_run vad vvad acf0 pvad }
 {
-    answer[0] = bit(vad);
-    answer[1] = bit(vvad);
-    answer[2] = acf0.e as i32;
-    answer[3] = acf0.m as i32;
-    answer[4] = pvad.e as i32;
-    answer[5] = pvad.m as i32;
+    answer.copy_from_slice(&[
+        bit(vad),
+        bit(vvad),
+        i32::from(acf0.e),
+        i32::from(acf0.m),
+        i32::from(pvad.e),
+        i32::from(pvad.m),
+    ]);
 }
 
 // Whether what is lent to a step can be read: the lengths, the samples of a downlink frame, and the numbers of the state, in this order.
