@@ -69,7 +69,7 @@ pub fn four(from: &[u16]) -> [u16; 4]
 
 // ---- running sums
 
-// Whether each number of a row has 13 bits.
+// Whether each number of a row has 13 bits. This loop never leaves either.
 fn narrow(a: &[i16]) -> bool
     ensures { result ≡ all thirteen a.now }
 {
