@@ -7,9 +7,8 @@ use native.Mathlib.Omega.{arith}
 use lib.Dec.{eqb}
 use borrow.Author.Tests.{eq-eqb, ne_eqb, eqb-true, eqb-false}
 use lib.IntN.{ℤ}
-use lib.ListN.{length, set}
+use lib.ListN.{length}
 use Rattle.rows.specs.Choice.{IF◌THEN◌ELSE◌}
-use Rattle.rows.specs.Rows.{row}
 use Rattle.rows.proofs.Choice.{both, and_left, and_right, either}
 use Rattle.frames.specs.Frame.{Direction, samples_ok}
 use Rattle.detector.specs.Answer.{Answer}
@@ -17,7 +16,6 @@ use Rattle.detector.specs.Step.{answer_for}
 use Rattle.detector.proofs.Table.{accepted_0}
 use Rattle.detector.proofs.Keeps.{next_pointers}
 use Rattle.lindenflax.specs.Run.{run_of, state_of, narrow_of, answer_of, lengths_of, lent_number, step_number, run_after, answer_after, step_run, step_answer}
-use Rattle.lindenflax.proofs.Parted.{spread}
 
 -- six numbers that are known
 pub six : {a b c d e f p q r s t u : ℤ} → a ≡ p → b ≡ q → c ≡ r → d ≡ s → e ≡ t → f ≡ u

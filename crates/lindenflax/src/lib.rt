@@ -29,33 +29,23 @@ const ANSWER: usize = 6;
 // ---- a state from a run
 
 // Whether each of the numbers from `first` on is one of 16 bits.
-fn shorts(run: [i32; RUN], first: usize, count: usize) -> bool
+fn shorts(run: &[i32; RUN], first: usize, count: usize) -> bool
     requires { first + count ≤ library.RUN }
-    ensures { result ≡ library.shorts_of (library.part first count run) }
+    ensures { result ≡ library.shorts_of (library.part first count run.now) }
 {
     all_within(-32768, 32767, &run[first..first + count])
 }
 
 // Whether each number fits its field.
-fn narrow(run: [i32; RUN]) -> bool
-    ensures { result ≡ library.narrow_of run }
+fn narrow(run: &[i32; RUN]) -> bool
+    ensures { result ≡ library.narrow_of run.now }
 {
-    if !shorts(run, 0, 10) {
-        return false;
-    }
-    if !shorts(run, 76, 7) {
-        return false;
-    }
-    if !within(0, 27, run[37]) {
-        return false;
-    }
-    if !within(0, 27, run[74]) {
-        return false;
-    }
-    if !within(0, 65535, run[83]) {
-        return false;
-    }
-    within(0, 1, run[84])
+    shorts(run, 0, 10)
+        & shorts(run, 76, 7)
+        & within(0, 27, run[37])
+        & within(0, 27, run[74])
+        & within(0, 65535, run[83])
+        & within(0, 1, run[84])
 }
 
 // The N numbers of a run from `first` on.
@@ -93,17 +83,17 @@ fn short_at(run: &[i32; RUN], i: usize) -> i16
 }
 
 // The pointer at i.
-fn pointer_at(run: [i32; RUN], i: usize) -> usize
-    requires { (i < library.RUN) × Between (pos 0) (pos 27) (at run i) }
-    ensures { result ≡ nat_abs (at run i) }
+fn pointer_at(run: &[i32; RUN], i: usize) -> usize
+    requires { (i < library.RUN) × Between (pos 0) (pos 27) (at run.now i) }
+    ensures { result ≡ nat_abs (at run.now i) }
 {
     run[i] as usize
 }
 
 // The last lag.
-fn last_lag(run: [i32; RUN]) -> u16
-    requires { Between (pos 0) (pos 65535) (at run 83) }
-    ensures { result ≡ nat_abs (at run 83) }
+fn last_lag(run: &[i32; RUN]) -> u16
+    requires { Between (pos 0) (pos 65535) (at run.now 83) }
+    ensures { result ≡ nat_abs (at run.now 83) }
 {
     run[83] as u16
 }
@@ -124,9 +114,9 @@ fn unpacked(run: [i32; RUN]) -> State
         rvad: filter(&run),
         normrvad: short_at(&run, 9),
         sacf: part(&run, 10),
-        ptsacf: pointer_at(run, 37),
+        ptsacf: pointer_at(&run, 37),
         sav0: part(&run, 38),
-        ptsav0: pointer_at(run, 74),
+        ptsav0: pointer_at(&run, 74),
         lastdm: run[75],
         thvad: Pair {
             e: short_at(&run, 76),
@@ -137,7 +127,7 @@ fn unpacked(run: [i32; RUN]) -> State
         hangcount: short_at(&run, 80),
         oldlagcount: short_at(&run, 81),
         veryoldlagcount: short_at(&run, 82),
-        oldlag: last_lag(run),
+        oldlag: last_lag(&run),
         tone: flag(run[84]),
     }
 }
@@ -145,13 +135,12 @@ fn unpacked(run: [i32; RUN]) -> State
 // ---- a run from a state
 
 // A run with N numbers in place of those from `first` on.
-fn with_part<const N: usize>(run: [i32; RUN], first: usize, numbers: &[i32; N]) -> [i32; RUN]
+fn with_part<const N: usize>(mut run: [i32; RUN], first: usize, numbers: &[i32; N]) -> [i32; RUN]
     requires { first + N ≤ library.RUN }
     ensures { result ≡ take first run ++ numbers.now ++ drop (first + N) run }
 {
-    let mut out = run;
-    out[first..first + N].copy_from_slice(numbers);
-    out
+    run[first..first + N].copy_from_slice(numbers);
+    run
 }
 
 // 1 for a flag that is set and 0 for one that is not.
@@ -241,7 +230,7 @@ fn lent(
     if !direction.samples_ok() {
         return Err(Refusal::Samples);
     }
-    if !narrow(taken(state)) {
+    if !narrow(&taken(state)) {
         return Err(Refusal::State);
     }
     Ok(())

@@ -1,7 +1,7 @@
 -- `lindenflax::packed` stores each field at its place. Assumes nothing.
 use Rattle.std.proofs.Common.{rules, arith, ◌≡◌, ◌<◌, sym, ◌∙◌}
 use lib.ListN.{length, replicate, length-replicate}
-use mir.Syntax.{w16, w32}
+use mir.Syntax.{w32}
 use mir.Val.{SFits}
 use mir.Facts.{to_z_pos}
 use Rattle.numbers.proofs.Parts.{zarith}

@@ -1,7 +1,7 @@
 -- `lindenflax::put_answer` stores six numbers, each at its place. Assumes nothing.
 use borrow.Author.Rules.{rules}
-use mathlib.Core.Path.{◌≡◌, ◌∙◌}
-use mir.Syntax.{w16, w32}
+use mathlib.Core.Path.{◌∙◌}
+use mir.Syntax.{w32}
 use Rattle.numbers.proofs.Read.{back}
 use Rattle.lindenflax.specs.Run.{answer_run}
 use Rattle.lindenflax.proofs.Answers.{six}
