@@ -7,7 +7,7 @@ use lib.IntN.{ℤ, pos}
 use mir.Facts.{to_z-of_z}
 use Rattle.rows.specs.Choice.{IF◌THEN◌ELSE◌}
 use Rattle.rows.specs.Rows.{row}
-use Rattle.rows.proofs.Made.{called_row}
+use Rattle.rows.proofs.Made.{made}
 use Rattle.predictor.specs.Schur.{sacf_of, reflection_of}
 use Rattle.tone.specs.Autocorrelation.{l_acfh_of}
 use Rattle.tone.specs.Coefficients.{rc_of}
@@ -26,5 +26,5 @@ pub returns : goal.returns
 unfolding rc_of IF◌THEN◌ELSE◌
 returns c =
     let f = l_acfh_of c.args.sofh in
-    let e = called_row _ _ _ 9 (pos 0) (nine f) (λ i u y q k. (grind (arith, to_z-of_z), search (rules, of_calls))) c.from_fn.ensures.items in
+    let e = made _ (nine f) _ 9 (λ i y q u k. (grind (arith, to_z-of_z), search (rules, of_calls))) _ c.from_fn.ensures.items in
     c.reflection.ensures ∙ (ap (reflection_of 4) e ∙ padded f)
