@@ -90,7 +90,7 @@ fn av1(sav0: &[i32; 36], pt: usize) -> [i32; 9]
     std::array::from_fn(|i| sav0[pt + i])
 }
 
-// The frame in place of the oldest of a history.
+// The frame in place of the oldest of a history. A history and its pointer are no struct, for speed: its copies cost more than the sums.
 fn store(history: &mut [i32], pt: usize, frame: [i32; 9])
     requires { pt + 9 ≤ length history.old }
     ensures { history.new ≡ clause.stored_of history.old pt frame }

@@ -9,12 +9,12 @@ use operations::magnitude;
 use pairs::Pair;
 use rows::{all_within, short_within};
 
-// The last places of the two pointers: the last of three frames, and of four sums.
+// The last places of the two pointers: the last of three frames, and of four sums. The averages name them too: neither crate uses the other.
 const LAST_SACF: usize = 18;
 
 const LAST_SAV0: usize = 27;
 
-// What is kept from frame to frame. A valid state's ranges are those of specs/Valid.antt.
+// What is kept from frame to frame, by value and of a fixed size: the cards have no heap. A valid state's ranges are those of specs/Valid.antt.
 #[derive(Clone, Copy)]
 pub struct State {
     pub rvad: [i16; 9],

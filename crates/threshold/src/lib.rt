@@ -128,7 +128,8 @@ fn adapted(thvad: Pair, pvad: Pair) -> Pair
     at_most(margin(pvad), next)
 }
 
-// What is kept after a frame: the threshold and the filter are learned from a run of frames that hold no speech.
+// What is kept after a frame: the threshold and the filter are learned from a run of frames that hold no speech. What decides the way stays four
+// arguments, as four clauses give it.
 pub fn adapt(
     acf0: Pair,
     pvad: Pair,
