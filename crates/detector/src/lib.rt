@@ -9,16 +9,16 @@ ghost use Rattle.detector.specs.Refusal as table;
 ghost use Rattle.detector.specs.Step as clause;
 ghost use Rattle.detector.specs.Result.{accepted_in, answer_of};
 
-use averages::average;
-use energy::energy;
+use averages::{Averages, average};
+use energy::{Energies, energy};
 use frames::{Direction, LAGS, NUMBERS, check};
-use hangover::hangover;
+use hangover::{Hung, hangover};
 use lags::{lagcount, ptch};
 use pairs::{Pair, greater};
-use predictor::predicted;
+use predictor::{Filter, predicted};
 use refusals::Refusal;
 use rows::{four, nine};
-use spectrum::compare;
+use spectrum::{Compared, compare};
 use state::{State, state_ok};
 use threshold::{Kept, adapt};
 use tone::tone;
@@ -93,21 +93,25 @@ fn admit(
 fn spectral(acf: [i32; 9], scalvad: i16, s: State) -> Middle
     ensures { result ≡ clause.spectral_of acf scalvad s }
 {
-    let a = average(acf, scalvad, s.sacf, s.ptsacf, s.sav0, s.ptsav0);
-    let f = predicted(a.av1);
-    let d = compare(a.av0, f.rav1, f.normrav1, s.lastdm);
-    let sacf = a.sacf;
-    let sav0 = a.sav0;
-    let rav1 = f.rav1;
+    let Averages {
+        av0,
+        av1,
+        sacf,
+        ptsacf,
+        sav0,
+        ptsav0,
+    } = average(acf, scalvad, s.sacf, s.ptsacf, s.sav0, s.ptsav0);
+    let Filter { rav1, normrav1 } = predicted(av1);
+    let Compared { dm, stat } = compare(av0, rav1, normrav1, s.lastdm);
     Middle {
         sacf,
-        ptsacf: a.ptsacf,
+        ptsacf,
         sav0,
-        ptsav0: a.ptsav0,
-        lastdm: d.dm,
-        stat: d.stat,
+        ptsav0,
+        lastdm: dm,
+        stat,
         rav1,
-        normrav1: f.normrav1,
+        normrav1,
     }
 }
 
@@ -122,53 +126,60 @@ fn answered(
 ) -> Accepted
     ensures { accepted_in result ≡ clause.accepted_of tone found acf lags scalvad s }
 {
-    let e = energy(acf, scalvad, s.rvad, s.normrvad);
-    let m = spectral(acf, scalvad, s);
-    let filter = s.rvad;
-    let kept = Kept {
+    let Energies { acf0, pvad } = energy(acf, scalvad, s.rvad, s.normrvad);
+    let Middle {
+        sacf,
+        ptsacf,
+        sav0,
+        ptsav0,
+        lastdm,
+        stat,
+        rav1,
+        normrav1,
+    } = spectral(acf, scalvad, s);
+    let rvad = s.rvad;
+    let was = Kept {
         thvad: s.thvad,
         adaptcount: s.adaptcount,
-        rvad: filter,
+        rvad,
         normrvad: s.normrvad,
     };
-    let k = adapt(
-        e.acf0,
-        e.pvad,
-        ptch(s.oldlagcount, s.veryoldlagcount),
-        m.stat,
-        tone,
-        m.rav1,
-        m.normrav1,
-        kept,
-    );
-    let vvad = greater(e.pvad, k.thvad);
-    let h = hangover(vvad, s.burstcount, s.hangcount);
-    let rvad = k.rvad;
-    let sacf = m.sacf;
-    let sav0 = m.sav0;
+    let ptch = ptch(s.oldlagcount, s.veryoldlagcount);
+    let Kept {
+        thvad,
+        adaptcount,
+        rvad,
+        normrvad,
+    } = adapt(acf0, pvad, ptch, stat, tone, rav1, normrav1, was);
+    let vvad = greater(pvad, thvad);
+    let Hung {
+        vad,
+        burstcount,
+        hangcount,
+    } = hangover(vvad, s.burstcount, s.hangcount);
     let next = State {
         rvad,
-        normrvad: k.normrvad,
+        normrvad,
         sacf,
-        ptsacf: m.ptsacf,
+        ptsacf,
         sav0,
-        ptsav0: m.ptsav0,
-        lastdm: m.lastdm,
-        thvad: k.thvad,
-        adaptcount: k.adaptcount,
-        burstcount: h.burstcount,
-        hangcount: h.hangcount,
+        ptsav0,
+        lastdm,
+        thvad,
+        adaptcount,
+        burstcount,
+        hangcount,
         oldlagcount: lagcount(s.oldlag, lags),
         veryoldlagcount: s.oldlagcount,
         oldlag: lags[3],
         tone: found,
     };
     Accepted {
-        vad: h.vad,
+        vad,
         vvad,
-        stat: m.stat,
-        acf0: e.acf0,
-        pvad: e.pvad,
+        stat,
+        acf0,
+        pvad,
         next,
     }
 }

@@ -23,7 +23,7 @@ use Rattle.detector.specs.declared.Middle.{Middle}
 use Rattle.detector.specs.Answer.{Answer}
 use Rattle.detector.specs.Step.{spectral_of, accepted_of}
 use Rattle.detector.proofs.answered.Goals as goal
-use Rattle.detector.proofs.answered.Goals.{After-adapt-k, After-energy-e, After-hangover-h, After-ptch, After-spectral-m, Start}
+use Rattle.detector.proofs.answered.Goals.{After-adapt-adaptcount, After-energy, After-hangover-vad, After-ptch-ptch, After-spectral-ptsacf, Start}
 
 -- the answer, from what the clauses gave, one equation for each and for each number that is read back
 assembled : (tone found : Bool) (l_acf : List ℤ) (lags : List ℕ) (scalvad : ℤ) (s : State) {e : Energies} {m : Middle} {p v : Bool} {k : Kept} {h : Hung} {n d a b r o w : ℤ}
@@ -41,65 +41,65 @@ assembled tone found l_acf lags scalvad s e₁ e₂ e₃ e₄ e₅ e₆ n₁ n�
 old_was : (c : Start) → SFits w16 c.args.s.oldlagcount
 old_was c = search rules
 
-dm_fits : (c : After-spectral-m) → SFits w32 c.spectral-m.result.lastdm
+dm_fits : (c : After-spectral-ptsacf) → SFits w32 c.spectral-ptsacf.result.lastdm
 dm_fits c = search rules
 
-norm_fits : (c : After-adapt-k) → SFits w16 c.adapt-k.result.normrvad
+norm_fits : (c : After-adapt-adaptcount) → SFits w16 c.adapt-adaptcount.result.normrvad
 norm_fits c = search rules
 
-adapt_fits : (c : After-adapt-k) → SFits w16 c.adapt-k.result.adaptcount
+adapt_fits : (c : After-adapt-adaptcount) → SFits w16 c.adapt-adaptcount.result.adaptcount
 adapt_fits c = search rules
 
-burst_fits : (c : After-hangover-h) → SFits w16 c.hangover-h.result.burstcount
+burst_fits : (c : After-hangover-vad) → SFits w16 c.hangover-vad.result.burstcount
 burst_fits c = search rules
 
-hang_fits : (c : After-hangover-h) → SFits w16 c.hangover-h.result.hangcount
+hang_fits : (c : After-hangover-vad) → SFits w16 c.hangover-vad.result.hangcount
 hang_fits c = search rules
 
-energy_is : (c : After-energy-e) → c.energy-e.result ≡ energy_of c.args.acf c.args.scalvad c.args.s.rvad c.args.s.normrvad
+energy_is : (c : After-energy) → c.energy.result ≡ energy_of c.args.acf c.args.scalvad c.args.s.rvad c.args.s.normrvad
 energy_is c =
     let f = c.ranges.scalvad in
     let g : SFits w16 c.args.s.normrvad = search rules in
-    simp zreads at c.energy-e.ensures
+    simp zreads at c.energy.ensures
 
-spectral_is : (c : After-spectral-m) → c.spectral-m.result ≡ spectral_of c.args.acf c.args.scalvad c.args.s
-spectral_is c = let f = c.ranges.scalvad in simp zreads at c.spectral-m.ensures
+spectral_is : (c : After-spectral-ptsacf) → c.spectral-ptsacf.result ≡ spectral_of c.args.acf c.args.scalvad c.args.s
+spectral_is c = let f = c.ranges.scalvad in simp zreads at c.spectral-ptsacf.ensures
 
-ptch_is : (c : After-ptch) → c.ptch.result ≡ ptch_of c.args.s.oldlagcount c.args.s.veryoldlagcount
+ptch_is : (c : After-ptch-ptch) → c.ptch-ptch.result ≡ ptch_of c.args.s.oldlagcount c.args.s.veryoldlagcount
 ptch_is c =
     let f : SFits w16 c.args.s.oldlagcount = search rules in
     let g : SFits w16 c.args.s.veryoldlagcount = search rules in
-    simp zreads at c.ptch.ensures
+    simp zreads at c.ptch-ptch.ensures
 
 abbrev was : State → Kept
 was s = record { thvad = s.thvad; adaptcount = s.adaptcount; rvad = s.rvad; normrvad = s.normrvad }
 
-adapt_is : (c : After-adapt-k) → c.adapt-k.result ≡ adapt_of c.energy-e.result.acf0 c.energy-e.result.pvad c.ptch.result c.spectral-m.result.stat c.args.tone c.spectral-m.result.rav1 c.spectral-m.result.normrav1 (was c.args.s)
+adapt_is : (c : After-adapt-adaptcount) → c.adapt-adaptcount.result ≡ adapt_of c.energy.result.acf0 c.energy.result.pvad c.ptch-ptch.result c.spectral-ptsacf.result.stat c.args.tone c.spectral-ptsacf.result.rav1 c.spectral-ptsacf.result.normrav1 (was c.args.s)
 adapt_is c =
-    let f : SFits w16 c.spectral-m.result.normrav1 = search rules in
+    let f : SFits w16 c.spectral-ptsacf.result.normrav1 = search rules in
     let g : SFits w16 c.args.s.adaptcount = search rules in
     let h : SFits w16 c.args.s.normrvad = search rules in
-    simp zreads at c.adapt-k.ensures
+    simp zreads at c.adapt-adaptcount.ensures
 
-hangover_is : (c : After-hangover-h) → c.hangover-h.result ≡ hangover_of c.greater-vvad.result c.args.s.burstcount c.args.s.hangcount
+hangover_is : (c : After-hangover-vad) → c.hangover-vad.result ≡ hangover_of c.greater-vvad.result c.args.s.burstcount c.args.s.hangcount
 hangover_is c =
     let f : SFits w16 c.args.s.burstcount = search rules in
     let g : SFits w16 c.args.s.hangcount = search rules in
-    simp zreads at c.hangover-h.ensures
+    simp zreads at c.hangover-vad.ensures
 
 pub returns : goal.returns
 returns c =
     assembled c.args.tone c.args.found c.args.acf c.args.lags c.args.scalvad c.args.s
-    (energy_is (goal.at.returns c).After-energy-e)
-    (spectral_is (goal.at.returns c).After-spectral-m)
-    (ptch_is (goal.at.returns c).After-ptch)
-    (adapt_is (goal.at.returns c).After-adapt-k)
+    (energy_is (goal.at.returns c).After-energy)
+    (spectral_is (goal.at.returns c).After-spectral-ptsacf)
+    (ptch_is (goal.at.returns c).After-ptch-ptch)
+    (adapt_is (goal.at.returns c).After-adapt-adaptcount)
     c.greater-vvad.ensures
-    (hangover_is (goal.at.returns c).After-hangover-h)
-    (to_z-of_z (norm_fits (goal.at.returns c).After-adapt-k))
-    (to_z-of_z (dm_fits (goal.at.returns c).After-spectral-m))
-    (to_z-of_z (adapt_fits (goal.at.returns c).After-adapt-k))
-    (to_z-of_z (burst_fits (goal.at.returns c).After-hangover-h))
-    (to_z-of_z (hang_fits (goal.at.returns c).After-hangover-h))
+    (hangover_is (goal.at.returns c).After-hangover-vad)
+    (to_z-of_z (norm_fits (goal.at.returns c).After-adapt-adaptcount))
+    (to_z-of_z (dm_fits (goal.at.returns c).After-spectral-ptsacf))
+    (to_z-of_z (adapt_fits (goal.at.returns c).After-adapt-adaptcount))
+    (to_z-of_z (burst_fits (goal.at.returns c).After-hangover-vad))
+    (to_z-of_z (hang_fits (goal.at.returns c).After-hangover-vad))
     (back w16 c.lagcount.type_inv ∙ c.lagcount.ensures)
     (to_z-of_z (old_was (goal.at.returns c).Start))
