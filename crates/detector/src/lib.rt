@@ -10,11 +10,12 @@ ghost use Rattle.detector.specs.Step as clause;
 
 use averages::average;
 use energy::energy;
-use frames::{LAGS, NUMBERS, SAMPLES, frame_refusal};
+use frames::{LAGS, NUMBERS, SAMPLES, check};
 use hangover::hangover;
 use lags::{lagcount, ptch};
 use pairs::{Pair, greater};
 use predictor::predicted;
+use refusals::number_in;
 use rows::{four, nine};
 use spectrum::compare;
 use state::{State, state_ok};
@@ -62,7 +63,7 @@ fn refusal(samples: bool, acf: &[i32], lags: &[u16], scalvad: i16, s: State) -> 
         return 8;
     }
     if state_ok(s) {
-        return frame_refusal(nine(acf), four(lags), scalvad);
+        return number_in(check(nine(acf), four(lags), scalvad));
     }
     5
 }

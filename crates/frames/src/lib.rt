@@ -2,10 +2,12 @@
 #![tactic(auto)]
 
 ghost use Rattle.std.specs.Prelude.{◌≡◌};
+ghost use Rattle.refusals.specs.Refusal.{number_in};
 ghost use Rattle.frames.specs.Frame.{acf_ok, lags_ok, frame_refusal_of};
 
 use lags::lag_ok;
 use operations::magnitude;
+use refusals::Refusal;
 use rows::short_within;
 
 // A frame's autocorrelations and lags, as many as are lent.
@@ -21,42 +23,29 @@ fn acf_ok(acf: [i32; 9]) -> bool
     ensures { result ≡ acf_ok acf }
 {
     let first = acf[0];
-    if first < 0 {
-        return false;
-    }
-    let top = first as u32;
-    for i in 0..9 {
-        if magnitude(acf[i]) > top {
-            return false;
-        }
-    }
-    true
+    let top = magnitude(first);
+    first >= 0 && acf.iter().all(|x| magnitude(*x) <= top)
 }
 
 // Whether each lag is one of 40..120.
 fn lags_ok(lags: [u16; 4]) -> bool
     ensures { result ≡ lags_ok lags }
 {
-    for i in 0..4 {
-        if !lag_ok(lags[i]) {
-            return false;
-        }
-    }
-    true
+    lags.iter().all(|lag| lag_ok(*lag))
 }
 
-// The refusal number of a frame by itself, 0 for one that can be accepted.
-pub fn frame_refusal(acf: [i32; 9], lags: [u16; 4], scalvad: i16) -> u8
-    ensures { result ≡ frame_refusal_of acf lags scalvad }
+// Whether a frame by itself can be accepted: its scale, its numbers and its lags, in this order.
+pub fn check(acf: [i32; 9], lags: [u16; 4], scalvad: i16) -> Result<(), Refusal>
+    ensures { number_in result ≡ frame_refusal_of acf lags scalvad }
 {
     if !short_within(0, 4, scalvad) {
-        return 2;
+        return Err(Refusal::Scale);
     }
     if !acf_ok(acf) {
-        return 3;
+        return Err(Refusal::Numbers);
     }
-    if lags_ok(lags) {
-        return 0;
+    if !lags_ok(lags) {
+        return Err(Refusal::Lag);
     }
-    4
+    Ok(())
 }

@@ -9,8 +9,9 @@ ghost use Rattle.lines.specs.Hex as hex;
 ghost use Rattle.lines.specs.Line as frame;
 ghost use Rattle.lines.specs.Answers as answer;
 
-use frames::{LAGS, NUMBERS, frame_refusal};
+use frames::{LAGS, NUMBERS, check};
 use operations::magnitude;
+use refusals::number_in;
 use rows::{four, nine};
 
 // A line's digits, and its bytes with the line feed.
@@ -239,7 +240,7 @@ pub fn decode(line: &[u8]) -> Decoded
     }
     let acf = d.acf;
     let lags = d.lags;
-    let n = frame_refusal(acf, lags, d.scale);
+    let n = number_in(check(acf, lags, d.scale));
     if n != 0 {
         return refused(n);
     }
@@ -354,7 +355,7 @@ pub fn write(acf: &[i32], lags: &[u16], scale: i16, line: &mut [u8]) -> u8
     }
     let a = nine(acf);
     let g = four(lags);
-    let n = frame_refusal(a, g, scale);
+    let n = number_in(check(a, g, scale));
     if n != 0 {
         return n;
     }

@@ -33,13 +33,14 @@ returns-then-not-samples c = sym (by_yes _ _ (lengths (goal.at.returns-then-not-
 pub returns-then-state_ok : goal.returns-then-state_ok
 unfolding refusal_of
 returns-then-state_ok c =
-    let x = c.before.before.before.before.before in
+    let x = c.before.before.before.before.before.before in
     let g = x.args in
     let f = x.ranges.scalvad in
     let n = c.nine.ensures ∙ first_whole 9 g.acf.now (pos 0) x.if-acf-ne-NUMBERS.false in
     let k = c.four.ensures ∙ first_whole 4 g.lags.now 0 x.if-lags-ne-LAGS.false in
-    let r : c.frame_refusal.result ≡ frame_refusal_of c.nine.result c.four.result g.scalvad = simp zreads at c.frame_refusal.ensures in
-    r
+    let r = simp zreads at c.check.ensures in
+    c.number_in.ensures
+    ∙ r
     ∙ ap₂ (λ (x : List ℤ) (y : List ℕ). frame_refusal_of x y g.scalvad) n k
     ∙ sym (by_yes _ _ (lengths (goal.at.returns-then-state_ok c).Else-lags-ne-LAGS) ∙ by_yes _ _ (not_false x.if-not-samples.false-raw) ∙ by_yes _ _ (sym c.state_ok.ensures ∙ c.if-state_ok.true))
 

@@ -7,7 +7,7 @@ use Rattle.lines.specs.Line.{Frame, line_of}
 use Rattle.lines.specs.Answers.{ranges_of, write_of}
 use Rattle.lines.proofs.Answers.{lengths_no, lengths_no_lags, lengths_yes, write_unsized, write_short, write_sized, write_kept, write_stored}
 use Rattle.lines.proofs.write.Goals as goal
-use Rattle.lines.proofs.write.Goals.{After-frame_refusal-n, Else-n-ne0}
+use Rattle.lines.proofs.write.Goals.{After-number_in-n, Else-n-ne0}
 
 abbrev frame : List ℤ → ℤ → List ℕ → Frame
 frame a s g = record { acf = a; scale = s; lags = g }
@@ -31,32 +31,32 @@ returns-then-line-ne-LINE c =
     record { value = k.0; line_after = k.1 }
 
 -- what is lent has its length, and is copied whole
-lent_acf : (c : After-frame_refusal-n) → c.nine-a.result ≡ c.args.acf.now
+lent_acf : (c : After-number_in-n) → c.nine-a.result ≡ c.args.acf.now
 lent_acf c = c.nine-a.ensures ∙ first_whole 9 c.args.acf.now (pos 0) (omega arith)
 
-lent_lags : (c : After-frame_refusal-n) → c.four-g.result ≡ c.args.lags.now
+lent_lags : (c : After-number_in-n) → c.four-g.result ≡ c.args.lags.now
 lent_lags c = c.four-g.ensures ∙ first_whole 4 c.args.lags.now 0 (omega arith)
 
-ranges_is : (c : After-frame_refusal-n) → write_of (frame c.args.acf.now c.args.scale c.args.lags.now) c.args.line.now ≡ c.frame_refusal-n.result
+ranges_is : (c : After-number_in-n) → write_of (frame c.args.acf.now c.args.scale c.args.lags.now) c.args.line.now ≡ c.number_in-n.result
 unfolding ranges_of
 ranges_is c =
     let r = frame c.args.acf.now c.args.scale c.args.lags.now in
     let f = c.ranges.scale in
-    let n = simp zreads at c.frame_refusal-n.ensures in
+    let n = simp zreads at c.check.ensures in
     write_sized r c.args.line.now (lengths_yes c.args.acf.now c.args.lags.now (omega arith) (omega arith)) (omega arith)
-    ∙ sym (n ∙ ap₂ (λ (x : List ℤ) (y : List ℕ). frame_refusal_of x y c.args.scale) (lent_acf c) (lent_lags c))
+    ∙ sym (c.number_in-n.ensures ∙ n ∙ ap₂ (λ (x : List ℤ) (y : List ℕ). frame_refusal_of x y c.args.scale) (lent_acf c) (lent_lags c))
 
-zero_is : (c : Else-n-ne0) → c.frame_refusal-n.result ≡ 0
+zero_is : (c : Else-n-ne0) → c.number_in-n.result ≡ 0
 zero_is c = omega arith
 
 pub returns-then-n-ne0 : goal.returns-then-n-ne0
 returns-then-n-ne0 c =
-    let k = write_kept (frame c.args.acf.now c.args.scale c.args.lags.now) c.args.line.now _ (ranges_is (goal.at.returns-then-n-ne0 c).After-frame_refusal-n) c.if-n-ne0.true in
+    let k = write_kept (frame c.args.acf.now c.args.scale c.args.lags.now) c.args.line.now _ (ranges_is (goal.at.returns-then-n-ne0 c).After-number_in-n) c.if-n-ne0.true in
     record { value = k.0; line_after = k.1 }
 
 pub returns : goal.returns
 returns c =
-    let r = (goal.at.returns c).After-frame_refusal-n in
+    let r = (goal.at.returns c).After-number_in-n in
     let z = zero_is (goal.at.returns c).Else-n-ne0 in
     let f = c.ranges.scale in
     let p = simp zreads at c.put_line.ensures in
