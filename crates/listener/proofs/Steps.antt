@@ -9,8 +9,7 @@ use lib.ListN.{length, take, drop, length-drop}
 use Rattle.rows.specs.Choice.{IF◌THEN◌ELSE◌}
 use Rattle.rows.proofs.Choice.{by_test}
 use Rattle.frames.specs.Frame.{down}
-use Rattle.lines.specs.declared.Decoded.{Decoded}
-use Rattle.lines.specs.Answers.{decoded_of, refused_of}
+use Rattle.lines.specs.Answers.{Decoded, decoded_of, refused_of}
 use Rattle.lines.proofs.Answers.{decoded_digit}
 use Rattle.lines.proofs.Malformed.{decoded_cut, decoded_short}
 use Rattle.state.specs.declared.State.{State}

@@ -66,35 +66,35 @@ pub struct Said {
 pub fn answer(s: State, block: &[u8], line: &[u8]) -> Said
     ensures { result ≡ one.said_of s block.now line.now }
 {
-    let d = lines::decode(line);
-    let n = d.refusal;
-    if n != 0 {
-        return Said {
+    match lines::decode(line) {
+        Ok(frame) => {
+            let heard = samples::read(block);
+            let r = detector::downlink(
+                &frame.acf,
+                &frame.lags,
+                frame.scale,
+                &heard.sof[..heard.count],
+                s,
+            );
+            Said {
+                reply: Reply {
+                    refusal: r.refusal,
+                    vad: r.vad,
+                    vvad: r.vvad,
+                    tone: r.next.tone,
+                },
+                next: r.next,
+            }
+        }
+        Err(refusal) => Said {
             reply: Reply {
-                refusal: n,
+                refusal: refusal.number(),
                 vad: false,
                 vvad: false,
                 tone: s.tone,
             },
             next: s,
-        };
-    }
-    let frame = samples::read(block);
-    let sof = frame.sof;
-    let count = frame.count;
-    let acf = d.acf;
-    let lags = d.lags;
-    let scale = d.scale;
-    let r = detector::downlink(&acf, &lags, scale, &sof[..count], s);
-    let next = r.next;
-    Said {
-        reply: Reply {
-            refusal: r.refusal,
-            vad: r.vad,
-            vvad: r.vvad,
-            tone: next.tone,
         },
-        next,
     }
 }
 

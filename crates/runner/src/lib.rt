@@ -57,30 +57,26 @@ pub struct Said {
 pub fn answer(s: State, line: &[u8]) -> Said
     ensures { result ≡ one.said_of s line.now }
 {
-    let d = lines::decode(line);
-    let n = d.refusal;
-    if n != 0 {
-        return Said {
+    match lines::decode(line) {
+        Ok(frame) => {
+            let r = detector::step(&frame.acf, &frame.lags, frame.scale, s);
+            Said {
+                reply: Reply {
+                    refusal: r.refusal,
+                    vad: r.vad,
+                    vvad: r.vvad,
+                },
+                next: r.next,
+            }
+        }
+        Err(refusal) => Said {
             reply: Reply {
-                refusal: n,
+                refusal: refusal.number(),
                 vad: false,
                 vvad: false,
             },
             next: s,
-        };
-    }
-    let acf = d.acf;
-    let lags = d.lags;
-    let scale = d.scale;
-    let r = detector::step(&acf, &lags, scale, s);
-    let next = r.next;
-    Said {
-        reply: Reply {
-            refusal: r.refusal,
-            vad: r.vad,
-            vvad: r.vvad,
         },
-        next,
     }
 }
 

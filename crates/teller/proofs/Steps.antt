@@ -10,8 +10,7 @@ use lib.ListN.{length, length-append}
 use Rattle.numbers.proofs.Parts.{zarith, of, sign}
 use Rattle.rows.specs.Choice.{IF◌THEN◌ELSE◌}
 use Rattle.rows.proofs.Choice.{by_yes, by_no, by_test}
-use Rattle.lines.specs.declared.Decoded.{Decoded}
-use Rattle.lines.specs.Answers.{decoded_of, refused_of}
+use Rattle.lines.specs.Answers.{Decoded, decoded_of, refused_of}
 use Rattle.lines.proofs.Malformed.{decoded_cut, decoded_short}
 use Rattle.pieces.specs.Lines.{plain_of, short}
 use Rattle.samples.specs.Beside.{Beside, block_of, text_beside}

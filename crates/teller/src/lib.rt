@@ -77,29 +77,28 @@ struct Written {
 pub fn tell(h: Hearing, block: &[u8], line: &[u8]) -> Told
     ensures { result ≡ run.told_of h block.now line.now }
 {
-    let d = lines::decode(line);
-    let n = d.refusal;
-    if n != 0 {
-        return Told {
-            why: Why::Refused(n),
+    match lines::decode(line) {
+        Ok(frame) => {
+            let heard = samples::read(block);
+            let r = why::explain(
+                h.downlink,
+                h.explainer,
+                &frame.acf,
+                &frame.lags,
+                frame.scale,
+                &heard.sof[..heard.count],
+            );
+            Told {
+                why: r.why,
+                next: Hearing {
+                    downlink: h.downlink,
+                    explainer: r.next,
+                },
+            }
+        }
+        Err(refusal) => Told {
+            why: Why::Refused(refusal.number()),
             next: h,
-        };
-    }
-    let acf = d.acf;
-    let lags = d.lags;
-    let scale = d.scale;
-    let e = h.explainer;
-    let heard = samples::read(block);
-    let count = heard.count;
-    let sof = heard.sof;
-    let r = why::explain(h.downlink, e, &acf, &lags, scale, &sof[..count]);
-    let why = r.why;
-    let explainer = r.next;
-    Told {
-        why,
-        next: Hearing {
-            downlink: h.downlink,
-            explainer,
         },
     }
 }
