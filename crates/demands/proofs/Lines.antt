@@ -16,10 +16,9 @@ use Rattle.rows.proofs.Choice.{by_test, by_yes}
 use Rattle.lags.specs.Lags.{lag_ok}
 use Rattle.frames.specs.Frame.{lengths_ok, scale_ok, acf_ok, lags_ok, frame_refusal_of}
 use Rattle.detector.proofs.Keeps.{Numbers}
-use Rattle.lines.specs.Line.{Frame, frame_of, formed_of}
-use Rattle.lines.specs.Answers.{ranges_of, refused_of, accepted_of, checked_of, decoded_of, heading_of, read_of, acf_after, lags_after, write_of, line_after}
-use Rattle.lines.specs.declared.Decoded.{Decoded}
-use Rattle.lines.specs.declared.Heading.{Heading}
+use Rattle.lines.specs.declared.Frame.{Frame}
+use Rattle.lines.specs.Line.{frame_of, formed_of}
+use Rattle.lines.specs.Answers.{ranges_of, refused_of, accepted_of, checked_of, decoded_of, heading_of, read_of, acf_after, lags_after, write_of, line_after, Decoded, Heading}
 use Rattle.lines.specs.Worked.{line, frame, decodes}
 use Rattle.lines.proofs.Answers.{read_sized, read_kept, write_kept}
 use Rattle.lines.proofs.RoundTrip.{lent_write_then_read, lent_read_then_write, left}

@@ -17,9 +17,9 @@ use Rattle.state.specs.declared.State.{State}
 use Rattle.state.specs.Valid.{valid_of, Shaped}
 use Rattle.detector.specs.Answer.{Answer}
 use Rattle.detector.specs.Step.{accepted_of, tone_read, tone_kept}
-use Rattle.lines.specs.Line.{Frame, frame_of, formed_of}
-use Rattle.lines.specs.Answers.{read_of, acf_after, lags_after, write_of, line_after}
-use Rattle.lines.specs.declared.Heading.{Heading}
+use Rattle.lines.specs.declared.Frame.{Frame}
+use Rattle.lines.specs.Line.{frame_of, formed_of}
+use Rattle.lines.specs.Answers.{read_of, acf_after, lags_after, write_of, line_after, Heading}
 use Rattle.runner.specs.Run.{run_of}
 use Rattle.demands.specs.Case.{input, output}
 use Rattle.demands.specs.Covered.{Covered}

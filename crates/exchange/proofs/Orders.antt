@@ -18,8 +18,7 @@ use Rattle.rows.proofs.Choice.{by_test, by_yes, either, and_left, and_right}
 use Rattle.rows.proofs.Fill.{row_at, length_row}
 use Rattle.frames.specs.Frame.{up, Frame, samples_ok}
 use Rattle.lines.specs.Line.{field_at, word_at, frame_of, formed_of}
-use Rattle.lines.specs.declared.Decoded.{Decoded}
-use Rattle.lines.specs.Answers.{ranges_of, accepted_of, refused_of}
+use Rattle.lines.specs.Answers.{Decoded, ranges_of, accepted_of, refused_of}
 use Rattle.lines.proofs.Answers.{lengths_yes, decoded_accepted, decoded_refused}
 use Rattle.lines.proofs.Fields.{field_lt}
 use Rattle.state.specs.declared.State.{State}

@@ -11,9 +11,8 @@ use lib.ListN.{length, drop, get_or, set}
 use lib.Seq.{set-get_or}
 use Rattle.rows.specs.Choice.{IF◌THEN◌ELSE◌}
 use Rattle.rows.proofs.Choice.{by_test, by_yes, by_no, either}
-use Rattle.lines.specs.declared.Decoded.{Decoded}
+use Rattle.lines.specs.Answers.{Decoded, parsed_of, accepted_of}
 use Rattle.lines.specs.Line.{frame_of}
-use Rattle.lines.specs.Answers.{parsed_of, accepted_of}
 use Rattle.lines.proofs.Answers.{parsed_formed}
 use Rattle.state.specs.declared.State.{State}
 use Rattle.state.specs.Valid.{reset_of}

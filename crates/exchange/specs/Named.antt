@@ -3,8 +3,7 @@
 -- names them. Assumes nothing.
 use Rattle.std.specs.Prelude.{Bool, false, not, List, ℕ, eqb, pos, replicate, drop}
 use Rattle.rows.specs.Choice.{IF◌THEN◌ELSE◌}
-use Rattle.lines.specs.declared.Decoded.{Decoded}
-use Rattle.lines.specs.Answers.{parsed_of}
+use Rattle.lines.specs.Answers.{Decoded, parsed_of}
 use Rattle.state.specs.declared.State.{State}
 use Rattle.state.specs.Valid.{reset_of}
 use Rattle.detector.specs.Step.{step_of}

@@ -2,6 +2,7 @@
 #![tactic(auto)]
 
 ghost use Rattle.std.specs.Prelude.{◌≡◌, length};
+ghost use Rattle.lines.specs.Answers.{accepted_of};
 ghost use Rattle.runner.specs.Said.{answer_bytes, denied_of};
 ghost use Rattle.exchange.specs.Line as form;
 ghost use Rattle.exchange.specs.Named as one;
@@ -11,7 +12,7 @@ ghost use Rattle.exchange.specs.Fed as piece;
 
 use card::{CHANNELS, in_bank};
 use counts::Reply;
-use lines::Decoded;
+use lines::Frame;
 use player::{Hearer, Player};
 use runner::Said;
 use state::State;
@@ -23,6 +24,13 @@ const ANSWER: usize = 4;
 const RESET: usize = 3;
 
 const LINE_FEED: u8 = 10;
+
+// What stands after a channel that is reset.
+const NO_FRAME: Frame = Frame {
+    acf: [0; 9],
+    scale: 0,
+    lags: [0; 4],
+};
 
 // The states of a card's channels.
 #[derive(Clone, Copy)]
@@ -64,22 +72,22 @@ fn none(n: u8) -> Named
     }
 }
 
-// A line that names this channel, by what is read after it.
-fn found(channel: usize, resets: bool, d: Decoded) -> Named
-    ensures { result ≡ one.found_of channel resets d }
+// A line that names this channel, and the numbers that stand after it.
+fn found(channel: usize, resets: bool, frame: Frame) -> Named
+    ensures { result ≡ one.found_of channel resets (accepted_of frame) }
 {
     if !in_bank(CHANNELS, channel) {
         return none(9);
     }
-    let acf = d.acf;
-    let lags = d.lags;
+    let acf = frame.acf;
+    let lags = frame.lags;
     Named {
         refusal: 0,
         resets,
         channel,
         acf,
         lags,
-        scale: d.scale,
+        scale: frame.scale,
     }
 }
 
@@ -100,23 +108,18 @@ fn read(line: &[u8]) -> Named
     if line.len() < RESET {
         return none(6);
     }
-    let high = lines::value(line[0]);
-    let low = lines::value(line[1]);
-    if high > 15 {
+    let Some(high) = lines::value(line[0]) else {
         return none(6);
-    }
-    if low > 15 {
+    };
+    let Some(low) = lines::value(line[1]) else {
         return none(6);
-    }
+    };
     let channel = 16 * high as usize + low as usize;
-    let d = lines::parse(&line[2..]);
-    if d.refusal == 0 {
-        return found(channel, false, d);
+    match lines::parse(&line[2..]) {
+        Ok(frame) => found(channel, false, frame),
+        Err(_) if bare(line) => found(channel, true, NO_FRAME),
+        Err(_) => none(6),
     }
-    if !bare(line) {
-        return none(6);
-    }
-    found(channel, true, d)
 }
 
 // A number, and the state that stays or is new.

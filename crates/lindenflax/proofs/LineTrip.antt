@@ -12,9 +12,8 @@ use mir.Syntax.{w32}
 use mir.Val.{SFits}
 use Rattle.numbers.specs.Sum.{at}
 use Rattle.rows.proofs.Choice.{either}
-use Rattle.lines.specs.Line.{Frame}
-use Rattle.lines.specs.Answers.{write_of, line_after}
-use Rattle.lines.specs.declared.Heading.{Heading}
+use Rattle.lines.specs.declared.Frame.{Frame}
+use Rattle.lines.specs.Answers.{write_of, line_after, Heading}
 use Rattle.lines.proofs.Answers.{lengths_yes}
 use Rattle.lines.proofs.RoundTrip.{left, lent_write_then_read, lent_read_then_write}
 use Rattle.lindenflax.specs.Lines.{read_number, read_acf, read_lags, read_scale, framed, write_number, write_line}

@@ -7,8 +7,7 @@ use lib.IntN.{ℤ}
 use lib.ListN.{length, set}
 use Rattle.rows.specs.Choice.{IF◌THEN◌ELSE◌}
 use Rattle.rows.specs.Rows.{row}
-use Rattle.lines.specs.Answers.{read_of, acf_after, lags_after}
-use Rattle.lines.specs.declared.Heading.{Heading}
+use Rattle.lines.specs.Answers.{read_of, acf_after, lags_after, Heading}
 use Rattle.lines.proofs.Answers.{read_kept}
 use Rattle.lindenflax.specs.Lines.{read_number, read_acf, read_lags, read_scale}
 use Rattle.lindenflax.proofs.Parted.{spread}

@@ -2,7 +2,7 @@
 -- for every input: for callers in C and Rust. A frame, a line and the checks are those of `lines`. Assumes nothing.
 use Rattle.std.specs.Prelude.{List, [], ◌∷◌, ℕ, eqb, ℤ, length}
 use Rattle.rows.specs.Choice.{IF◌THEN◌ELSE◌}
-use Rattle.lines.specs.Line.{Frame}
+use Rattle.lines.specs.declared.Frame.{Frame}
 use Rattle.lines.specs.Answers.{read_of, acf_after, lags_after, write_of, line_after}
 
 -- ---- lindenflax_read_line: the number it answers, and the numbers, the lags and the run of one scale that it leaves

@@ -327,14 +327,13 @@ pub extern "C" fn lindenflax_read_line(
     if scale.len() != 1 {
         return 1;
     }
-    let h = read(line, acf, lags);
-    let n = h.refusal;
-    if n != 0 {
-        return n;
+    match read(line, acf, lags) {
+        Ok(read) => {
+            scale[0] = read;
+            0
+        }
+        Err(refusal) => refusal.number(),
     }
-    let s = h.scale;
-    scale[0] = s;
-    0
 }
 
 // A frame written into a lent line of 82 bytes, or the first of 1, 2, 3, 4 that refuses it.
@@ -348,5 +347,5 @@ pub extern "C" fn lindenflax_write_line(
     ensures value { result ≡ trace.write_number acf.now lags.now scale line.old }
     ensures line_after { line.new ≡ trace.write_line acf.now lags.now scale line.old }
 {
-    write(acf, lags, scale, line)
+    number_in(write(acf, lags, scale, line))
 }

@@ -3,9 +3,11 @@
 use Rattle.std.proofs.Common.{◌≡◌, ℕ, zero, suc, ◌+◌, ◌-◌, ◌*◌, ◌/◌, ◌%◌, ◌^◌, ◌<◌, ◌≤◌, Bool, true, false, ltb, leb, List, [], ◌∷◌, ◌++◌, length, get_or, take, drop, sym, refl, ap, ◌∙◌, ap₂, add-zero, add-suc, mul_assoc, arith, length-append, length-drop, length-take, get_or-drop, drop-cons, get_or-take, take-suc, pow-add, ltb-false, ltb-true, le-ltb, lt-ltb, le-leb, leb-true}
 use borrow.Author.Tests.{lt-leb}
 use Rattle.rows.specs.Choice.{IF◌THEN◌ELSE◌}
+use Rattle.std.specs.Prelude.{Some, None}
 use Rattle.rows.specs.Rows.{all}
+use Rattle.rows.proofs.Choice.{either, by_yes, by_no}
 use Rattle.rows.proofs.All.{all_at}
-use Rattle.lines.specs.Hex.{value_of, hex_of, digit_of, number_from, number_of, digits_of}
+use Rattle.lines.specs.Hex.{value_of, hex_of, worth_of, digit_of, number_from, number_of, digits_of}
 use Rattle.lines.proofs.Tests.{all_append}
 
 -- a digit's worth: below 10 from 48 on, the rest from 55 on
@@ -79,6 +81,21 @@ value_none b x = let h = ltb-false (value_of b) 16 x in go h (ltb b 48) (leb b 5
         let r = leb-true b 70 k in
         let q = value_high b l r in absurd (omega arith)
     go h false false false false e f g k = rw (e, f, g, k)
+
+-- what a character is worth, by what is answered
+pub worth_some : (b v : ℕ) → Some v ≡ worth_of b → (v ≡ value_of b) × (value_of b < 16)
+unfolding worth_of
+worth_some b v e =
+    either ((v ≡ value_of b) × (value_of b < 16)) (hex_of b)
+    (λ t. (let q = e ∙ by_yes (Some (value_of b)) None t in cc, hex_value b t))
+    (λ t. absurd (let q = e ∙ by_no (Some (value_of b)) None t in cc))
+
+pub worth_none : (b : ℕ) → None ≡ worth_of b → value_of b ≡ 16
+unfolding worth_of
+worth_none b e =
+    either (value_of b ≡ 16) (hex_of b)
+    (λ t. absurd (let q = e ∙ by_yes (Some (value_of b)) None t in cc))
+    (λ t. value_none b t)
 
 pub hex_digit : (n : ℕ) → n < 16 → hex_of (digit_of n) ≡ true
 unfolding hex_of

@@ -2,7 +2,6 @@ pub mod Tests
 pub mod Digits
 pub mod Lanes
 pub mod Bits
-pub mod Back
 pub mod Fields
 pub mod Puts
 pub mod Answers

@@ -1,6 +1,8 @@
 -- A text that is put into a longer one, piece after piece. Assumes nothing.
-use Rattle.std.proofs.Common.{◌≡◌, ℕ, ◌+◌, ◌*◌, ◌<◌, ◌≤◌, List, [], ◌∷◌, ◌++◌, length, get_or, take, drop, set, sym, refl, ap, ◌∙◌, ap₂, append_assoc, append-nil, add-one, arith, length-append, length-drop, drop_of_length-le, length-take-le, take-suc, take_at, drop_at}
+use Rattle.std.proofs.Common.{◌≡◌, ℕ, ◌+◌, ◌-◌, ◌*◌, take_all, ◌<◌, ◌≤◌, List, [], ◌∷◌, ◌++◌, length, get_or, take, drop, set, sym, refl, ap, ◌∙◌, ap₂, append_assoc, append-nil, add-one, arith, length-append, length-drop, drop_of_length-le, length-take-le, take-suc, take_at, drop_at}
+use borrow.Rule.Slice.PartMut.{put_mid}
 use lib.Seq.{set_split}
+use Rattle.std.proofs.lemmas.Slice.{put_mid-paste}
 use Rattle.lines.specs.Hex.{digits_of, blocks_of}
 use Rattle.lines.proofs.Digits.{length_digits}
 
@@ -16,6 +18,10 @@ module _ {ℓ} {A : Type ℓ} (l l' d : List A) (at k : ℕ) (e : l' ≡ take at
 
   pub put_length : length l' ≡ length l
   put_length = ap length e ∙ (length-append (take at l ++ d) (drop (at + k) l) ∙ (let g = head in let r = length-drop (at + k) l in omega arith))
+
+-- a part that is written over
+pub pasted : (l ys d : List ℕ) (p k : ℕ) → ys ≡ d → length d ≡ k → put_mid p (p + k - p) l ys ≡ take p l ++ d ++ drop (p + k) l
+pasted l ys d p k e n = put_mid-paste p (p + k - p) l ys d k e (omega arith) (sym n) ∙ ap (λ (t : List ℕ). take p l ++ t ++ drop (p + k) l) (take_all k d (omega arith))
 
 pub blocks_append : (k : ℕ) (l m : List ℕ) → blocks_of k (l ++ m) ≡ blocks_of k l ++ blocks_of k m
 unfolding blocks_of

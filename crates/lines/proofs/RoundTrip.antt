@@ -17,10 +17,9 @@ use Rattle.lags.specs.Lags.{lag_ok}
 use Rattle.frames.specs.Frame.{lengths_ok, scale_ok, acf_ok, lags_ok, frame_refusal_of}
 use Rattle.frames.proofs.Frame.{nine, four}
 use Rattle.lines.specs.Hex.{hex_of, number_of, digits_of, blocks_of}
-use Rattle.lines.specs.Line.{Frame, field_at, word_at, frame_of, line_of, formed_of}
-use Rattle.lines.specs.Answers.{ranges_of, refused_of, accepted_of, decoded_of, heading_of, read_of, acf_after, lags_after, write_of, line_after}
-use Rattle.lines.specs.declared.Decoded.{Decoded}
-use Rattle.lines.specs.declared.Heading.{Heading}
+use Rattle.lines.specs.declared.Frame.{Frame}
+use Rattle.lines.specs.Line.{field_at, word_at, frame_of, line_of, formed_of}
+use Rattle.lines.specs.Answers.{ranges_of, refused_of, accepted_of, decoded_of, heading_of, read_of, acf_after, lags_after, write_of, line_after, Decoded, Heading}
 use Rattle.lines.proofs.Tests.{all_append}
 use Rattle.lines.proofs.Digits.{digits_number, number_digits, length_digits, hex_digits, part_length}
 use Rattle.lines.proofs.Fields.{formed, field_hex, field_lt}

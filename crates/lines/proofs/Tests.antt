@@ -1,7 +1,14 @@
 -- Tests of all entries, of a row put together and of a part. Assumes nothing.
-use Rattle.std.proofs.Common.{◌≡◌, ℕ, zero, suc, ◌+◌, ◌≤◌, Bool, true, false, ◌&&◌, List, [], ◌∷◌, ◌++◌, take, drop, refl, subst, arith, take-take}
+use Rattle.std.proofs.Common.{◌≡◌, ℕ, zero, suc, ◌+◌, ◌≤◌, Bool, true, false, ◌&&◌, List, [], ◌∷◌, ◌++◌, take, drop, refl, ap, subst, arith, take-take}
+use Rattle.std.specs.List.{list_all}
 use Rattle.rows.specs.Rows.{all}
 use Rattle.rows.proofs.Choice.{and_left, and_right, both}
+
+-- a test of all is the library's
+pub all_is : {A : Type 0} (f : A → Bool) (l : List A) → all f l ≡ list_all f l
+unfolding all
+all_is f [] = refl
+all_is f (x ∷ l) = ap (λ (t : Bool). f x && t) (all_is f l)
 
 pub and_no : (a b : Bool) → b ≡ false → a && b ≡ false
 and_no true b e = e

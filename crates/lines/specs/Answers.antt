@@ -1,11 +1,24 @@
 -- What reading and writing a line answer, and what each lent buffer holds afterwards: the checks in document 01's order, 1, 6, 2, 3, 4
 -- for a line to read and 1, 2, 3, 4 for a frame to write. Assumes nothing.
-use Rattle.std.specs.Prelude.{ℕ, ◌&&◌, List, length, replicate, ℤ, pos, nat_eq}
+use Rattle.std.specs.Prelude.{ℕ, ◌&&◌, List, length, replicate, ℤ, pos, nat_eq, Result, Ok, Err}
 use Rattle.rows.specs.Choice.{IF◌THEN◌ELSE◌}
 use Rattle.frames.specs.Frame.{lengths_ok, frame_refusal_of}
-use Rattle.lines.specs.Line.{Frame, LINE, frame_of, line_of, formed_of}
-use Rattle.lines.specs.declared.Decoded.{Decoded}
-use Rattle.lines.specs.declared.Heading.{Heading}
+use Rattle.lines.specs.declared.Frame.{Frame}
+use Rattle.lines.specs.Line.{LINE, frame_of, line_of, formed_of}
+use Rattle.refusals.specs.Refusal.{number_of}
+use Rattle.refusals.specs.declared.Refusal.{Refusal}
+
+-- a line read: its refusal number, and its frame or zeros
+pub record Decoded : Type 0 where
+  pub refusal : ℕ
+  pub scale : ℤ
+  pub acf : List ℤ
+  pub lags : List ℕ
+
+-- a line read into lent numbers and lags: its refusal number and its scale
+pub record Heading : Type 0 where
+  pub refusal : ℕ
+  pub scale : ℤ
 
 -- the range checks 2, 3, 4 of a frame
 unfoldable pub ranges_of : Frame → ℕ
@@ -19,6 +32,11 @@ refused_of n = record { refusal = n; scale = pos 0; acf = replicate 9 (pos 0); l
 
 unfoldable pub accepted_of : Frame → Decoded
 accepted_of f = record { refusal = 0; scale = f.scale; acf = f.acf; lags = f.lags }
+
+-- an answer that is a frame or a refusal, as its number and values
+unfoldable pub decoded_in : Result Frame Refusal → Decoded
+decoded_in (Ok f) = accepted_of f
+decoded_in (Err e) = refused_of (number_of e)
 
 -- a well-formed line: 2, 3, 4
 unfoldable pub checked_of : Frame → Decoded
@@ -34,6 +52,11 @@ decoded_of l = IF formed_of l THEN checked_of (frame_of l) ELSE refused_of 6
 
 unfoldable pub heading_of : Decoded → Heading
 heading_of d = record { refusal = d.refusal; scale = d.scale }
+
+-- an answer that is a scale or a refusal, as its number and scale
+unfoldable pub heading_in : Result ℤ Refusal → Heading
+heading_in (Ok scale) = record { refusal = 0; scale = scale }
+heading_in (Err e) = record { refusal = number_of e; scale = pos 0 }
 
 -- into lent numbers and lags: 1, and then the others
 unfoldable pub read_of : List ℤ → List ℕ → List ℕ → Heading

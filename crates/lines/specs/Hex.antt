@@ -1,6 +1,6 @@
 -- Upper-case hexadecimal digits: what a character is worth, the character of a digit, and a number and its digits, the first the
 -- highest. Characters are their ASCII codes: 48..57 are 0..9, 65..70 are A..F. Assumes nothing.
-use Rattle.std.specs.Prelude.{ℕ, zero, suc, ◌+◌, ◌-◌, ◌*◌, ◌/◌, ◌%◌, Bool, ltb, List, [], ◌∷◌, ◌++◌, nat_le, nat_lt}
+use Rattle.std.specs.Prelude.{ℕ, zero, suc, ◌+◌, ◌-◌, ◌*◌, ◌/◌, ◌%◌, Bool, ltb, List, [], ◌∷◌, ◌++◌, nat_le, nat_lt, Option, Some, None}
 use Rattle.rows.specs.Choice.{IF◌THEN◌ELSE◌}
 
 -- what a character is worth: 0..15, and 16 where it is no digit
@@ -14,6 +14,10 @@ value_of b =
 
 unfoldable pub hex_of : ℕ → Bool
 hex_of b = nat_lt (value_of b) 16
+
+-- the same, of a digit alone
+unfoldable pub worth_of : ℕ → Option ℕ
+worth_of b = IF hex_of b THEN Some (value_of b) ELSE None
 
 -- the character of a number below 16
 unfoldable pub digit_of : ℕ → ℕ

@@ -4,12 +4,8 @@ use Rattle.std.specs.Prelude.{ℕ, ◌*◌, Bool, ◌&&◌, List, [], ◌∷◌,
 use Rattle.std.specs.Int.{w32}
 use Rattle.std.proofs.Common.{to_z, of_z}
 use Rattle.rows.specs.Rows.{row, all}
+use Rattle.lines.specs.declared.Frame.{Frame}
 use Rattle.lines.specs.Hex.{hex_of, number_of, digits_of, blocks_of}
-
-pub record Frame : Type 0 where
-  pub acf : List ℤ
-  pub scale : ℤ
-  pub lags : List ℕ
 
 -- a line's digits, and its bytes with the line feed
 abbrev pub DIGITS : ℕ

@@ -6,7 +6,8 @@ use Rattle.rows.specs.Rows.{row, all}
 use Rattle.lags.specs.Lags.{lag_ok}
 use Rattle.frames.specs.Frame.{scale_ok, acf_ok, lags_ok, frame_refusal_of}
 use Rattle.lines.specs.Hex.{value_of, hex_of, digit_of, number_from, number_of, digits_of, blocks_of}
-use Rattle.lines.specs.Line.{Frame, field_at, word_at, frame_of, line_of, formed_of}
+use Rattle.lines.specs.declared.Frame.{Frame}
+use Rattle.lines.specs.Line.{field_at, word_at, frame_of, line_of, formed_of}
 use Rattle.lines.specs.Answers.{ranges_of, refused_of, accepted_of, checked_of, decoded_of}
 
 unfoldable pub line : List ℕ

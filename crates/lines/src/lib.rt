@@ -1,17 +1,15 @@
 // Trace lines: a frame written as 81 upper-case hexadecimal digits and a line feed, and read back.
 #![tactic(auto)]
 
-ghost use Rattle.std.specs.Prelude.{◌≡◌, ◌+◌, ◌<◌, ◌≤◌, true, ◌++◌, map, length, take, drop, pos};
-ghost use Rattle.std.specs.Int.{w32};
-ghost use Rattle.std.proofs.Common.{to_z, of_z};
+ghost use Rattle.std.specs.Prelude.{◌≡◌, ◌+◌, ◌*◌, ◌<◌, ◌≤◌, true, false, ◌++◌, map, length, take, drop, pos, MatchOption};
+ghost use Rattle.refusals.specs.Refusal.{number_in};
 ghost use Rattle.rows.specs.Rows.{row, all};
 ghost use Rattle.lines.specs.Hex as hex;
-ghost use Rattle.lines.specs.Line as frame;
+ghost use Rattle.lines.specs.Line as trace;
 ghost use Rattle.lines.specs.Answers as answer;
 
 use frames::{LAGS, NUMBERS, check};
-use operations::magnitude;
-use refusals::number_in;
+use refusals::Refusal;
 use rows::{four, nine};
 
 // A line's digits, and its bytes with the line feed.
@@ -19,27 +17,17 @@ pub const DIGITS: usize = 81;
 
 pub const LINE: usize = 82;
 
-const LINE_FEED: u8 = 10;
-
 // Where the scale stands, and the first lag.
 const SCALE_AT: usize = 72;
 
 const LAGS_AT: usize = 73;
 
-// A line read: its refusal number, and its frame or zeros.
-#[derive(Clone, Copy)]
-pub struct Decoded {
-    pub refusal: u8,
-    pub scale: i16,
+// The frame of a line.
+#[derive(Clone, Copy, PartialEq, Eq, Debug)]
+pub struct Frame {
     pub acf: [i32; 9],
-    pub lags: [u16; 4],
-}
-
-// A line read into lent numbers and lags: its refusal number and its scale.
-#[derive(Clone, Copy)]
-pub struct Heading {
-    pub refusal: u8,
     pub scale: i16,
+    pub lags: [u16; 4],
 }
 
 // ---- digits
@@ -49,38 +37,15 @@ fn digit(n: u8) -> u8
     requires { n < 16 }
     ensures { result ≡ hex.digit_of n }
 {
-    if n < 10 {
-        return 48 + n;
-    }
-    55 + n
-}
-
-// The number of a pattern of 32 bits.
-fn signed(x: u32) -> i32
-    ensures { result ≡ to_z w32 x }
-{
-    if x < 2147483648 {
-        return x as i32;
-    }
-    (x as i64 - 4294967296) as i32
-}
-
-// The pattern of a number of 32 bits.
-fn pattern(z: i32) -> u32
-    ensures { result ≡ of_z w32 z }
-{
-    if z < 0 {
-        return (z as i64 + 4294967296) as u32;
-    }
-    z as u32
+    if n < 10 { b'0' + n } else { b'A' + (n - 10) }
 }
 
 // Whether a character is a digit. A byte below its range wraps to one beyond it, so that there is no branch, for speed.
 fn is_hex(b: u8) -> bool
     ensures { result ≡ hex.hex_of b }
 {
-    let figure = std::num::wrapping_sub_u8(b, 48) < 10;
-    let letter = std::num::wrapping_sub_u8(b, 65) < 6;
+    let figure = b.wrapping_sub(b'0') < 10;
+    let letter = b.wrapping_sub(b'A') < 6;
     figure | letter
 }
 
@@ -92,27 +57,20 @@ fn worth(b: u8) -> u8
     b % 16 + 9 * (b / 64)
 }
 
-// What a character is worth: 0 to 15, or 16 where it is no digit.
-pub fn value(b: u8) -> u8
-    ensures { result ≡ hex.value_of b }
+// What a character is worth, if it is a digit.
+pub fn value(b: u8) -> Option<u8>
+    ensures { result ≡ hex.worth_of b }
 {
-    if is_hex(b) {
-        return worth(b);
-    }
-    16
+    if is_hex(b) { Some(worth(b)) } else { None }
 }
 
-// The number that eight digits from `at` on write. Only speed explains the shape: the eight characters are put into one number,
-// a lane of eight bits for each and the first in the lowest, and all are worked on at once.
-fn number(line: &[u8], at: usize) -> u32
-    requires { (at + 8 ≤ length line.now) × (all hex.hex_of (take 8 (drop at line.now)) ≡ true) }
-    ensures { result ≡ hex.number_of (take 8 (drop at line.now)) }
+// The number that eight digits write. Only speed explains the shape: the eight characters are put into one number, a lane of eight bits for each and the
+// first in the lowest, and all are worked on at once.
+fn number(digits: &[u8; 8]) -> u32
+    requires { all hex.hex_of digits.now ≡ true }
+    ensures { result ≡ hex.number_of digits.now }
 {
-    let mut x: u64 = 0;
-    for k in 0..8 {
-        let b = line[at + 7 - k];
-        x = x * 0x100 + b as u64;
-    }
+    let x = u64::from_le_bytes(*digits);
     // 1 in the lane of each letter: its character has the bit 6, and that of a figure has not.
     let letters = (x / 64) & 0x0101_0101_0101_0101;
     // What each digit is worth: 0 is 48, and A is 48 + 10 + 7.
@@ -123,242 +81,157 @@ fn number(line: &[u8], at: usize) -> u32
     ((halves * 0x1_0000 + halves / 0x1_0000_0000) & 0xffff_ffff) as u32
 }
 
-// Puts the `k` lowest digits of `x` at `at`.
-fn put(line: &mut [u8], at: usize, k: usize, x: u32)
-    requires { at + k ≤ length line.old }
-    ensures { line.new ≡ take at line.old ++ hex.digits_of k x ++ drop (at + k) line.old }
+// The lowest digits of a number, as many as are wanted.
+fn written<const K: usize>(x: u32) -> [u8; K]
+    ensures { result ≡ hex.digits_of K x }
 {
-    let mut left = k;
+    let mut out = [b'0'; K];
     let mut n = x;
-    while left > 0 {
-        left -= 1;
-        let d = (n % 16) as u8;
-        line[at + left] = digit(d);
+    for i in (0..K).rev() {
+        out[i] = digit((n % 16) as u8);
         n /= 16;
     }
+    out
 }
 
 // The eight digits of a number.
 pub fn eight(x: u32) -> [u8; 8]
     ensures { result ≡ hex.digits_of 8 x }
 {
-    let mut digits = [48u8; 8];
-    put(&mut digits, 0, 8, x);
-    digits
+    written(x)
 }
 
 // ---- a line to read
 
-// Whether a line is 81 digits and a line feed. The loop never leaves, for speed: it is done many characters at a time.
-fn formed(line: &[u8]) -> bool
-    ensures { result ≡ frame.formed_of line.now }
-{
-    if line.len() != LINE {
-        return false;
-    }
-    let mut ok = true;
-    for i in 0..DIGITS {
-        ok = ok & is_hex(line[i]);
-    }
-    if ok {
-        return line[DIGITS] == LINE_FEED;
-    }
-    false
+// A line of 81 digits and a line feed.
+#[derive(Clone, Copy)]
+struct Formed<'a> {
+    line: &'a [u8; LINE],
+    ghost formed: { trace.formed_of line.now ≡ true },
 }
 
-// The nine numbers of a line.
-fn acf_of(line: &[u8]) -> [i32; 9]
-    requires { frame.formed_of line.now ≡ true }
-    ensures { result ≡ row 9 (frame.word_at line.now) }
-{
-    let mut acf = [0i32; 9];
-    for i in 0..9 {
-        let x = number(line, 8 * i);
-        acf[i] = signed(x);
+impl<'a> Formed<'a> {
+    // A line, if it is one. The loop never leaves, for speed: it is done many characters at a time.
+    fn of(line: &'a [u8]) -> Option<Self>
+        ensures { MatchOption result (trace.formed_of line.now ≡ false) (λ f. f.line.now ≡ line.now) }
+    {
+        let Some(line) = line.as_array() else {
+            return None;
+        };
+        let mut ok = line[DIGITS] == b'\n';
+        for b in &line[..DIGITS] {
+            ok = ok & is_hex(*b);
+        }
+        if ok { Some(Formed { line }) } else { None }
     }
-    acf
-}
 
-// The scale of a line.
-fn scale_of(line: &[u8]) -> i16
-    requires { frame.formed_of line.now ≡ true }
-    ensures { result ≡ pos (frame.field_at 1 (drop 72 line.now) 0) }
-{
-    worth(line[SCALE_AT]) as i16
-}
+    // Its nine numbers.
+    fn acf(self) -> [i32; 9]
+        ensures { result ≡ row 9 (trace.word_at self.entry.line.now) }
+    {
+        let line = self.line;
+        let (words, _) = line.as_chunks::<8>();
+        let mut acf = [0i32; 9];
+        for (i, word) in words[..NUMBERS].iter().enumerate() {
+            acf[i] = number(word).cast_signed();
+        }
+        acf
+    }
 
-// The four lags of a line: eight digits, and so the four bytes of one number.
-fn lags_of(line: &[u8]) -> [u16; 4]
-    requires { frame.formed_of line.now ≡ true }
-    ensures { result ≡ row 4 (frame.field_at 2 (drop 73 line.now)) }
-{
-    let x = number(line, LAGS_AT);
-    let a = x / 0x100_0000;
-    let b = x / 0x1_0000 % 0x100;
-    let c = x / 0x100 % 0x100;
-    let d = x % 0x100;
-    [a as u16, b as u16, c as u16, d as u16]
-}
+    // Its scale.
+    fn scale(self) -> i16
+        ensures { result ≡ pos (trace.field_at 1 (drop 72 self.entry.line.now) 0) }
+    {
+        i16::from(worth(self.line[SCALE_AT]))
+    }
 
-// The answer to a refused line.
-fn refused(n: u8) -> Decoded
-    ensures { result ≡ answer.refused_of n }
-{
-    Decoded {
-        refusal: n,
-        scale: 0,
-        acf: [0i32; 9],
-        lags: [0u16; 4],
+    // Its four lags: eight digits, and so the four bytes of one number.
+    fn lags(self) -> [u16; 4]
+        ensures { result ≡ row 4 (trace.field_at 2 (drop 73 self.entry.line.now)) }
+    {
+        let line = self.line;
+        let digits = line[LAGS_AT..].first_chunk().unwrap();
+        let [a, b, c, d] = number(digits).to_be_bytes();
+        [u16::from(a), u16::from(b), u16::from(c), u16::from(d)]
     }
 }
 
-// Reads the numbers of a line, whatever they are, or gives 6.
-pub fn parse(line: &[u8]) -> Decoded
-    ensures { result ≡ answer.parsed_of line.now }
+// Reads the numbers of a line, whatever they are.
+pub fn parse(line: &[u8]) -> Result<Frame, Refusal>
+    ensures { answer.decoded_in result ≡ answer.parsed_of line.now }
 {
-    if !formed(line) {
-        return refused(6);
-    }
-    let acf = acf_of(line);
-    let scale = scale_of(line);
-    let lags = lags_of(line);
-    Decoded {
-        refusal: 0,
-        scale,
+    let Some(formed) = Formed::of(line) else {
+        return Err(Refusal::Malformed);
+    };
+    let acf = formed.acf();
+    let lags = formed.lags();
+    Ok(Frame {
         acf,
+        scale: formed.scale(),
         lags,
-    }
+    })
 }
 
 // Reads a line: its frame, or the first of 6, 2, 3, 4 that refuses it.
-pub fn decode(line: &[u8]) -> Decoded
-    ensures { result ≡ answer.decoded_of line.now }
+pub fn decode(line: &[u8]) -> Result<Frame, Refusal>
+    ensures { answer.decoded_in result ≡ answer.decoded_of line.now }
 {
-    let d = parse(line);
-    if d.refusal != 0 {
-        return d;
-    }
-    let acf = d.acf;
-    let lags = d.lags;
-    let n = number_in(check(acf, lags, d.scale));
-    if n != 0 {
-        return refused(n);
-    }
-    d
+    let frame = parse(line)?;
+    check(frame.acf, frame.lags, frame.scale)?;
+    Ok(frame)
 }
 
-// Stores nine numbers into a lent row of nine.
-fn store_acf(to: &mut [i32], acf: [i32; 9])
-    requires { length to.old ≡ 9 }
-    ensures { to.new ≡ acf }
-{
-    for i in 0..9 {
-        to[i] = acf[i];
-    }
-}
-
-// Stores four lags into a lent row of four.
-fn store_lags(to: &mut [u16], lags: [u16; 4])
-    requires { length to.old ≡ 4 }
-    ensures { to.new ≡ lags }
-{
-    for i in 0..4 {
-        to[i] = lags[i];
-    }
-}
-
-// Reads a line into lent numbers and lags, or gives the first of 1, 6, 2, 3, 4 that refuses it and leaves them as they were.
-pub fn read(line: &[u8], acf: &mut [i32], lags: &mut [u16]) -> Heading
-    ensures value { result ≡ answer.read_of acf.old lags.old line.now }
+// Reads a line into lent numbers and lags and gives its scale, or the first of 1, 6, 2, 3, 4 that refuses it and leaves them as they were.
+pub fn read(line: &[u8], acf: &mut [i32], lags: &mut [u16]) -> Result<i16, Refusal>
+    ensures value { answer.heading_in result ≡ answer.read_of acf.old lags.old line.now }
     ensures acf_after { acf.new ≡ answer.acf_after acf.old lags.old line.now }
     ensures lags_after { lags.new ≡ answer.lags_after acf.old lags.old line.now }
 {
-    if acf.len() != NUMBERS {
-        return Heading {
-            refusal: 1,
-            scale: 0,
-        };
+    if acf.len() != NUMBERS || lags.len() != LAGS {
+        return Err(Refusal::Length);
     }
-    if lags.len() != LAGS {
-        return Heading {
-            refusal: 1,
-            scale: 0,
-        };
-    }
-    let d = decode(line);
-    let n = d.refusal;
-    if n != 0 {
-        return Heading {
-            refusal: n,
-            scale: d.scale,
-        };
-    }
-    let a = d.acf;
-    let g = d.lags;
-    store_acf(acf, a);
-    store_lags(lags, g);
-    Heading {
-        refusal: 0,
-        scale: d.scale,
-    }
+    let frame = decode(line)?;
+    acf.copy_from_slice(&frame.acf);
+    lags.copy_from_slice(&frame.lags);
+    Ok(frame.scale)
 }
 
 // ---- a frame to write
 
-// Puts nine numbers at the head of a line.
-fn put_acf(line: &mut [u8], acf: [i32; 9])
-    requires { length line.old ≡ frame.LINE }
-    ensures { line.new ≡ hex.blocks_of 8 (map (of_z w32) acf) ++ drop 72 line.old }
+// Puts a number of K digits at `at`.
+fn put<const K: usize>(line: &mut [u8], at: usize, x: u32)
+    requires { at + K ≤ length line.old }
+    ensures { line.new ≡ take at line.old ++ hex.digits_of K x ++ drop (at + K) line.old }
 {
-    for i in 0..9 {
-        let x = pattern(acf[i]);
-        put(line, 8 * i, 8, x);
-    }
-}
-
-// Puts four lags before a line's last byte.
-fn put_lags(line: &mut [u8], lags: [u16; 4])
-    requires { length line.old ≡ frame.LINE }
-    ensures { line.new ≡ take 73 line.old ++ hex.blocks_of 2 lags ++ drop (73 + 8) line.old }
-{
-    for i in 0..4 {
-        let x = lags[i] as u32;
-        put(line, LAGS_AT + 2 * i, 2, x);
-    }
+    line[at..at + K].copy_from_slice(&written::<K>(x));
 }
 
 // Puts a frame's line.
-fn put_line(line: &mut [u8], acf: [i32; 9], scale: i16, lags: [u16; 4])
-    requires { length line.old ≡ frame.LINE }
-    ensures { line.new ≡ frame.line_of (record { acf = acf; scale = scale; lags = lags }) }
+fn put_line(line: &mut [u8], frame: Frame)
+    requires { length line.old ≡ trace.LINE }
+    ensures { line.new ≡ trace.line_of frame }
 {
-    put_acf(line, acf);
-    let x = magnitude(scale as i32);
-    put(line, SCALE_AT, 1, x);
-    put_lags(line, lags);
-    line[DIGITS] = LINE_FEED;
+    for (i, z) in frame.acf.iter().enumerate() {
+        put::<8>(line, 8 * i, z.cast_unsigned());
+    }
+    put::<1>(line, SCALE_AT, u32::from(frame.scale.unsigned_abs()));
+    for (k, lag) in frame.lags.iter().enumerate() {
+        put::<2>(line, LAGS_AT + 2 * k, u32::from(*lag));
+    }
+    line[DIGITS] = b'\n';
 }
 
 // Writes a frame into a lent line, or gives the first of 1, 2, 3, 4 that refuses it and leaves the line as it was.
-pub fn write(acf: &[i32], lags: &[u16], scale: i16, line: &mut [u8]) -> u8
-    ensures value { result ≡ answer.write_of (record { acf = acf.entry.now; scale = scale; lags = lags.now }) line.old }
+pub fn write(acf: &[i32], lags: &[u16], scale: i16, line: &mut [u8]) -> Result<(), Refusal>
+    ensures value { number_in result ≡ answer.write_of (record { acf = acf.entry.now; scale = scale; lags = lags.now }) line.old }
     ensures line_after { line.new ≡ answer.line_after (record { acf = acf.entry.now; scale = scale; lags = lags.now }) line.old }
 {
-    if acf.len() != NUMBERS {
-        return 1;
+    if acf.len() != NUMBERS || lags.len() != LAGS || line.len() != LINE {
+        return Err(Refusal::Length);
     }
-    if lags.len() != LAGS {
-        return 1;
-    }
-    if line.len() != LINE {
-        return 1;
-    }
-    let a = nine(acf);
-    let g = four(lags);
-    let n = number_in(check(a, g, scale));
-    if n != 0 {
-        return n;
-    }
-    put_line(line, a, scale, g);
-    0
+    let acf = nine(acf);
+    let lags = four(lags);
+    check(acf, lags, scale)?;
+    put_line(line, Frame { acf, scale, lags });
+    Ok(())
 }

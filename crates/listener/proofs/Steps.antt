@@ -8,8 +8,7 @@ use lib.ListN.{length}
 use Rattle.rows.specs.Choice.{IF◌THEN◌ELSE◌}
 use Rattle.rows.proofs.Choice.{by_test}
 use Rattle.frames.specs.Frame.{down}
-use Rattle.lines.specs.declared.Decoded.{Decoded}
-use Rattle.lines.specs.Answers.{decoded_of, refused_of}
+use Rattle.lines.specs.Answers.{Decoded, decoded_of, refused_of}
 use Rattle.lines.proofs.Answers.{decoded_digit}
 use Rattle.lines.proofs.Malformed.{decoded_cut}
 use Rattle.state.specs.declared.State.{State}

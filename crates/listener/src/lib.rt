@@ -83,13 +83,19 @@ fn stepped(r: Result<Accepted, Refused>) -> Said
 pub fn answer(s: State, block: &[u8], line: &[u8]) -> Said
     ensures { result ≡ one.said_of s block.now line.now }
 {
-    let d = lines::decode(line);
-    if d.refusal != 0 {
-        return denied(d.refusal, s);
+    match lines::decode(line) {
+        Ok(frame) => {
+            let heard = samples::read(block);
+            stepped(detector::downlink(
+                &frame.acf,
+                &frame.lags,
+                frame.scale,
+                &heard.sof[..heard.count],
+                s,
+            ))
+        }
+        Err(refusal) => denied(refusal.number(), s),
     }
-    let frame = samples::read(block);
-    let sof = frame.sof;
-    stepped(detector::downlink(&d.acf, &d.lags, d.scale, &sof[..frame.count], s))
 }
 
 // A flag as a character.

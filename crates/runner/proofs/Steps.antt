@@ -11,8 +11,7 @@ use Rattle.rows.proofs.Choice.{by_test}
 use Rattle.counts.specs.declared.Reply.{Reply}
 use Rattle.frames.specs.Frame.{up}
 use Rattle.lines.specs.Line.{LINE}
-use Rattle.lines.specs.declared.Decoded.{Decoded}
-use Rattle.lines.specs.Answers.{decoded_of, refused_of}
+use Rattle.lines.specs.Answers.{Decoded, decoded_of, refused_of}
 use Rattle.lines.proofs.Answers.{decoded_digit}
 use Rattle.lines.proofs.Malformed.{decoded_long, decoded_cut, decoded_short}
 use Rattle.state.specs.declared.State.{State}

@@ -73,11 +73,10 @@ pub fn stepped(r: Result<Accepted, Refused>) -> Said
 pub fn answer(s: State, line: &[u8]) -> Said
     ensures { result ≡ one.said_of s line.now }
 {
-    let d = lines::decode(line);
-    if d.refusal != 0 {
-        return denied(d.refusal, s);
+    match lines::decode(line) {
+        Ok(frame) => stepped(detector::step(&frame.acf, &frame.lags, frame.scale, s)),
+        Err(refusal) => denied(refusal.number(), s),
     }
-    stepped(detector::step(&d.acf, &d.lags, d.scale, s))
 }
 
 // A flag as a character.

@@ -7,8 +7,7 @@ use lib.Dec.{eqb}
 use lib.ListN.{length}
 use Rattle.rows.specs.Choice.{IF◌THEN◌ELSE◌}
 use Rattle.rows.proofs.Choice.{by_yes, by_no}
-use Rattle.lines.specs.declared.Decoded.{Decoded}
-use Rattle.lines.specs.Answers.{decoded_of, refused_of}
+use Rattle.lines.specs.Answers.{Decoded, decoded_of, refused_of}
 use Rattle.lines.proofs.Malformed.{decoded_cut}
 use Rattle.pieces.specs.Lines.{plain_of}
 use Rattle.why.specs.declared.Why.{Why}

@@ -78,24 +78,30 @@ fn sent(downlink: bool, r: Result<Explained, Denied>) -> Told
 pub fn tell(h: Hearing, block: &[u8], line: &[u8]) -> Told
     ensures { result ≡ run.told_of h block.now line.now }
 {
-    let d = lines::decode(line);
-    if d.refusal != 0 {
-        return Told {
-            why: Why::Refused(d.refusal),
+    match lines::decode(line) {
+        Ok(frame) => {
+            let heard = samples::read(block);
+            let direction = if h.downlink {
+                Direction::Downlink(&heard.sof[..heard.count])
+            } else {
+                Direction::Uplink
+            };
+            sent(
+                h.downlink,
+                why::explain(
+                    direction,
+                    h.explainer,
+                    &frame.acf,
+                    &frame.lags,
+                    frame.scale,
+                ),
+            )
+        }
+        Err(refusal) => Told {
+            why: Why::Refused(refusal.number()),
             next: h,
-        };
+        },
     }
-    let heard = samples::read(block);
-    let sof = heard.sof;
-    let direction = if h.downlink {
-        Direction::Downlink(&sof[..heard.count])
-    } else {
-        Direction::Uplink
-    };
-    sent(
-        h.downlink,
-        why::explain(direction, h.explainer, &d.acf, &d.lags, d.scale),
-    )
 }
 
 // ---- its text

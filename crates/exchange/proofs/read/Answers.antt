@@ -1,92 +1,75 @@
 -- `exchange::read` tests the two digits, and what stands after them. Assumes nothing.
-use mathlib.Core.Path.{◌≡◌, sym, ap, ap₂, ◌∙◌}
-use mathlib.Core.Bool.{Bool, true, false}
-use mathlib.Core.List.{List}
-use Prim.Native.Nat.{ℕ, ◌-◌, ◌<◌, ◌≤◌}
-use native.Mathlib.Omega.{arith}
-use lib.ListN.{length, drop, get_or, length-drop}
-use lib.Seq.{take_all}
-use Rattle.rows.proofs.Choice.{not_true, not_false}
-use Rattle.lines.specs.declared.Decoded.{Decoded}
+use Rattle.std.proofs.Common.{◌≡◌, ℕ, ◌+◌, ◌-◌, ◌*◌, ◌<◌, ◌≤◌, true, false, List, length, take, drop, get_or, sym, ap, ap₂, ◌∙◌, arith, length-drop, take_all}
 use Rattle.lines.specs.Hex.{value_of}
-use Rattle.lines.specs.Answers.{parsed_of}
-use Rattle.lines.proofs.Answers.{parsed_yes, parsed_no}
-use Rattle.exchange.specs.declared.Named.{Named}
-use Rattle.exchange.specs.Line.{calls_of}
+use Rattle.lines.specs.Answers.{Decoded, accepted_of, refused_of, parsed_of}
+use Rattle.lines.proofs.Digits.{worth_some, worth_none}
+use Rattle.lines.proofs.Answers.{parse_formed, parse_malformed, parsed_malformed, parsed_formed}
+use Rattle.exchange.specs.Line.{calls_of, channel_in}
 use Rattle.exchange.specs.Named.{found_of}
 use Rattle.exchange.proofs.Form.{brief_malformed, channel_is, named_malformed, named_high, named_low, named_call, named_reset, named_neither}
 use Rattle.exchange.proofs.read.Goals as goal
-use Rattle.exchange.proofs.read.Goals.{After-parse-d, After-value-low}
+use Rattle.exchange.proofs.read.Goals.{After-parse}
 
 pub returns-then-line-lt-RESET : goal.returns-then-line-lt-RESET
 returns-then-line-lt-RESET c = let l = c.args.line.now in c.none.ensures ∙ sym (named_malformed l (brief_malformed l c.if-line-lt-RESET.true))
 
--- the line has two characters
-long : (c : After-value-low) → 2 ≤ length c.args.line.now
-long c = omega arith
+pub returns-in_default : goal.returns-in_default
+returns-in_default c =
+    let e = worth_none (get_or c.args.line.now 0 0) (sym c.in_default.is ∙ c.value.ensures) in
+    c.none-in_default.ensures ∙ sym (named_high c.args.line.now (omega arith) (omega arith))
 
-pub returns-then-high-gt15 : goal.returns-then-high-gt15
-returns-then-high-gt15 c =
-    let e = c.value-high.ensures in
-    c.none-then-high-gt15.ensures ∙ sym (named_high c.args.line.now (long (goal.at.returns-then-high-gt15 c).After-value-low) (omega arith))
-
-pub returns-then-low-gt15 : goal.returns-then-low-gt15
-returns-then-low-gt15 c =
-    let e = c.value-low.ensures in
-    c.none-then-low-gt15.ensures ∙ sym (named_low c.args.line.now (long (goal.at.returns-then-low-gt15 c).After-value-low) (omega arith))
+pub returns-in_default-value : goal.returns-in_default-value
+returns-in_default-value c =
+    let e = worth_none (get_or c.args.line.now 1 0) (sym c.in_default-value.is ∙ c.value-2.ensures) in
+    c.none-in_default-value.ensures ∙ sym (named_low c.args.line.now (omega arith) (omega arith))
 
 -- two digits
-parsed : (c : After-parse-d) → c.parse-d.result ≡ parsed_of (drop 2 c.args.line.now)
-parsed c =
-    let l = c.args.line.now in
-    let n = length-drop 2 l in
-    c.parse-d.ensures ∙ ap parsed_of (take_all (length l - 2) (drop 2 l) (omega arith))
+module _ (c : After-parse) where
+  abbrev line : List ℕ
+  line = c.args.line.now
 
-digit_high : (c : After-parse-d) → value_of (get_or c.args.line.now 0 0) < 16
-digit_high c = let e = c.value-high.ensures in omega arith
+  long : 2 ≤ length line
+  long = omega arith
 
-digit_low : (c : After-parse-d) → value_of (get_or c.args.line.now 1 0) < 16
-digit_low c = let e = c.value-low.ensures in omega arith
+  high : (c.in-Some.high ≡ value_of (get_or line 0 0)) × (value_of (get_or line 0 0) < 16)
+  high = worth_some (get_or line 0 0) c.in-Some.high c.in-Some.ensures
 
--- by the channel and by what was parsed
-found_as : {r : Named} {k m : ℕ} {d e : Decoded} (b : Bool) → r ≡ found_of k b d → k ≡ m → d ≡ e → r ≡ found_of m b e
-found_as b h x y = h ∙ ap₂ (λ (n : ℕ) (z : Decoded). found_of n b z) x y
+  low : (c.in-Some-value.low ≡ value_of (get_or line 1 0)) × (value_of (get_or line 1 0) < 16)
+  low = worth_some (get_or line 1 0) c.in-Some-value.low c.in-Some-value.ensures
 
-number : (c : After-parse-d) → c.parse-d.result.refusal ≡ (parsed_of (drop 2 c.args.line.now)).refusal
-number c = ap (λ (d : Decoded). d.refusal) (parsed c)
+  channel : 16 * c.in-Some.high + c.in-Some-value.low ≡ channel_in line
+  channel = let n = channel_is line long in let h = high in let l = low in omega arith
 
-pub returns-then-d-eq0 : goal.returns-then-d-eq0
+  rest : parsed_of (take (length line - 2) (drop 2 line)) ≡ parsed_of (drop 2 line)
+  rest = let n = length-drop 2 line in ap parsed_of (take_all (length line - 2) (drop 2 line) (omega arith))
+
+pub returns-in-Ok : goal.returns-in-Ok
 unfolding calls_of
-returns-then-d-eq0 c =
-    let p = (goal.at.returns-then-d-eq0 c).After-parse-d in
-    let h = long (goal.at.returns-then-d-eq0 c).After-value-low in
+returns-in-Ok c =
+    let p = (goal.at.returns-in-Ok c).After-parse in
     let l = c.args.line.now in
-    let a = c.value-high.ensures in
-    let v = c.value-low.ensures in
-    let n = channel_is l h in
-    found_as false c.found.ensures (omega arith) (parsed p)
-    ∙ sym (named_call l h (digit_high p) (digit_low p) (parsed_yes (drop 2 l) (sym (number p) ∙ c.if-d-eq0.true)))
+    let e = c.in-Ok.ensures ∙ rest p in
+    let f = parse_formed (drop 2 l) c.in-Ok.frame e in
+    c.found.ensures
+    ∙ (ap₂ (λ (n : ℕ) (d : Decoded). found_of n false d) (channel p) (f.1 ∙ sym (parsed_formed (drop 2 l) f.0))
+    ∙ sym (named_call l (long p) (high p).1 (low p).1 f.0))
 
--- no frame stands there
-no_call : (l : List ℕ) (d : Decoded) → d.refusal ≡ (parsed_of (drop 2 l)).refusal → (d.refusal ≡ 0 → ⊥) → calls_of l ≡ false
+-- nothing that is read stands in a line that resets
+pub returns-in-Err : goal.returns-in-Err
+unfolding calls_of found_of accepted_of refused_of
+returns-in-Err c =
+    let p = (goal.at.returns-in-Err c).After-parse in
+    let l = c.args.line.now in
+    let t = parse_malformed (drop 2 l) _ (c.in-Err.ensures ∙ rest p) in
+    c.found-in-Err.ensures
+    ∙ (ap (λ (n : ℕ). found_of n true (refused_of 6)) (channel p)
+    ∙ (ap (found_of (channel_in l) true) (sym (parsed_malformed (drop 2 l) t))
+    ∙ sym (named_reset l (long p) (high p).1 (low p).1 t (sym c.bare.ensures ∙ c.if-bare.true))))
+
+pub returns-in-Err-2 : goal.returns-in-Err-2
 unfolding calls_of
-no_call l d n f = parsed_no (drop 2 l) (λ z. f (n ∙ z))
-
-pub returns-then-not-bare : goal.returns-then-not-bare
-returns-then-not-bare c =
-    let p = (goal.at.returns-then-not-bare c).After-parse-d in
-    let h = long (goal.at.returns-then-not-bare c).After-value-low in
+returns-in-Err-2 c =
+    let p = (goal.at.returns-in-Err-2 c).After-parse in
     let l = c.args.line.now in
-    c.none-then-not-bare.ensures
-    ∙ sym (named_neither l h (digit_high p) (digit_low p) (no_call l c.parse-d.result (number p) c.if-d-eq0.false) (sym c.bare.ensures ∙ not_true c.if-not-bare.true-raw))
-
-pub returns : goal.returns
-returns c =
-    let p = (goal.at.returns c).After-parse-d in
-    let h = long (goal.at.returns c).After-value-low in
-    let l = c.args.line.now in
-    let a = c.value-high.ensures in
-    let v = c.value-low.ensures in
-    let n = channel_is l h in
-    found_as true c.found-2.ensures (omega arith) (parsed p)
-    ∙ sym (named_reset l h (digit_high p) (digit_low p) (no_call l c.parse-d.result (number p) c.if-d-eq0.false) (sym c.bare.ensures ∙ not_false c.if-not-bare.false-raw))
+    let t = parse_malformed (drop 2 l) _ (c.in-Err-2.ensures ∙ rest p) in
+    c.none-in-Err-2.ensures ∙ sym (named_neither l (long p) (high p).1 (low p).1 t (sym c.bare.ensures ∙ c.if-bare.false))

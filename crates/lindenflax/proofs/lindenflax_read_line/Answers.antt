@@ -1,7 +1,9 @@
 -- `lindenflax::lindenflax_read_line` looks at the scale's run, reads the line, and stores the scale of an accepted one. Assumes nothing.
 use native.Mathlib.Omega.{arith}
-use mir.Syntax.{w16}
-use Rattle.numbers.proofs.Read.{back}
+use Rattle.std.proofs.Common.{w16, SFits, to_z-of_z, refl, ◌∙◌, rules}
+use Rattle.std.specs.Prelude.{Ok, Err}
+use Rattle.refusals.proofs.Laws.{number_digit}
+use Rattle.lines.specs.Answers.{heading_in}
 use Rattle.lindenflax.proofs.Lines.{no_scale, kept, refused_left, accepted_left}
 use Rattle.lindenflax.proofs.lindenflax_read_line.Goals as goal
 
@@ -12,19 +14,23 @@ returns-then-scale-ne1 c =
     (no_scale c.args.line.now c.args.acf.now c.args.lags.now c.args.scale.now (λ z. omega arith)) (λ z. omega arith)
     in record { value = all.0; acf_after = all.1.0; lags_after = all.1.1.0; scale_after = all.1.1.1 }
 
-pub returns-then-n-ne0 : goal.returns-then-n-ne0
-returns-then-n-ne0 c =
-    let r = c.read-h in
+pub returns-in-Err : goal.returns-in-Err
+unfolding heading_in
+returns-in-Err c =
+    let r = c.in-Err.ensures in
+    let e = c.in-Err.refusal in
+    let d = number_digit e in
     let all =
-    refused_left c.args.line.now c.args.acf.now c.args.lags.now c.args.scale.now r.result _ _
-    r.ensures.value r.ensures.acf_after r.ensures.lags_after (omega arith) (λ z. omega arith)
-    in record { value = all.0; acf_after = all.1.0; lags_after = all.1.1.0; scale_after = all.1.1.1 }
+    refused_left c.args.line.now c.args.acf.now c.args.lags.now c.args.scale.now (heading_in (Err e)) _ _
+    r.value r.acf_after r.lags_after (omega arith) (λ z. omega arith)
+    in record { value = c.number.ensures.value ∙ all.0; acf_after = all.1.0; lags_after = all.1.1.0; scale_after = all.1.1.1 }
 
-pub returns : goal.returns
-returns c =
-    let r = c.read-h in
-    let b = back w16 {z = r.result.scale} c.struct_told-1.given.1.0.1 in
+pub returns-in-Ok : goal.returns-in-Ok
+unfolding heading_in
+returns-in-Ok c =
+    let r = c.in-Ok.ensures in
+    let f : SFits w16 c.in-Ok.read = search rules in
     let all =
-    accepted_left c.args.line.now c.args.acf.now c.args.lags.now c.args.scale.now r.result _ _
-    r.ensures.value r.ensures.acf_after r.ensures.lags_after (omega arith) (omega arith)
-    in rw b (record { value = all.0; acf_after = all.1.0; lags_after = all.1.1.0; scale_after = all.1.1.1 })
+    accepted_left c.args.line.now c.args.acf.now c.args.lags.now c.args.scale.now (heading_in (Ok c.in-Ok.read)) _ _
+    r.value r.acf_after r.lags_after (omega arith) refl
+    in rw (to_z-of_z f) (record { value = all.0; acf_after = all.1.0; lags_after = all.1.1.0; scale_after = all.1.1.1 })

@@ -27,5 +27,4 @@ tests b x y h k p q = go (ltb b 48) (leb b 57) (ltb b 65) (leb b 70) refl refl r
         rw (e, f, g, l, le-ltb x 10 (omega arith), le-ltb y 6 (omega arith))
 
 pub returns : goal.returns
-returns c =
-    tests c.args.b c.wrapping_sub_u8-figure.result c.wrapping_sub_u8-letter.result (omega arith) (omega arith) c.wrapping_sub_u8-figure.ensures.value c.wrapping_sub_u8-letter.ensures.value
+returns c = tests c.args.b ((c.args.b + 208) % 256) ((c.args.b + 191) % 256) (omega arith) (omega arith) (omega (arith, c.ranges.b)) (omega (arith, c.ranges.b))

@@ -1,60 +1,35 @@
--- `lines::number` puts the characters into lanes from the last on; then the digits are joined in three steps. Assumes nothing.
-use Rattle.std.proofs.Common.{◌≡◌, ℕ, suc, ◌+◌, ◌-◌, ◌*◌, ◌/◌, ◌^◌, ◌<◌, ◌≤◌, List, map, length, get_or, take, drop, replicate, sym, refl, ap, ◌∙◌, ap₂, arith, drop-cons, pow_mono, pow-add}
+-- `lines::number` has each character in a lane; then the digits are joined in three steps. Assumes nothing.
+use Rattle.std.proofs.Common.{◌≡◌, ℕ, ◌+◌, ◌-◌, ◌*◌, ◌/◌, ◌≤◌, List, [], ◌∷◌, map, length, replicate, sym, ap, ◌∙◌, ap₂, arith}
 use lib.Bits.{bit_and, and_le_r}
 use lib.ListN.{length-map}
 use Rattle.lines.specs.Hex.{value_of, number_of}
-use Rattle.lines.proofs.Digits.{part_length}
+use Rattle.std.specs.Int.{w64, from_le_bytes}
 use Rattle.lines.proofs.Lanes as lane
 use Rattle.lines.proofs.Lanes.{lanes_of, joined_of, Below}
 use Rattle.lines.proofs.number.Goals as goal
-use Rattle.lines.proofs.number.Goals.{After-loop-k, After-shared_slice_known-1, At-loop-k, Start}
+use Rattle.lines.proofs.number.Goals.{After-from_le_bytes-x}
 
-one_more : (l : List ℕ) (j k : ℕ) → j < length l → lanes_of 8 (take (suc k) (drop j l)) ≡ lanes_of 8 (take k (drop (suc j) l)) * 256 + get_or l j 0
+-- eight bytes, the first in the lowest lane
+lanes_eight : (l : List ℕ) → length l ≡ 8 → from_le_bytes w64 l ≡ lanes_of 8 l
 unfolding lanes_of
-one_more l j k h = ap (λ (x : List ℕ). lanes_of 8 (take (suc k) x)) (drop-cons l j 0 h)
-
-pub loop-k-init : goal.loop-k-init
-unfolding lanes_of
-loop-k-init c = (omega arith, refl, omega arith)
-
--- with less than eight characters in it there is room for one more
-module _ (c : After-shared_slice_known-1) where
-  room : c.loop-k.x < 2 ^ 56
-  room =
-      let m : 8 * c.loop-k.k ≤ 56 = omega arith in
-      let p = pow_mono m in omega (arith, c.loop-k.invariant.2, p)
-
-  abbrev j : ℕ
-  j = c.args.at + 7 - c.loop-k.k
-
-pub overflow_mul-x : goal.overflow_mul-x
-overflow_mul-x c = record { fits = omega (arith, room c) }
-
-pub overflow_cast-x : goal.overflow_cast-x
-overflow_cast-x c = omega (arith, c.shared_slice_known-1.given (j c))
-
-pub overflow_add-x : goal.overflow_add-x
-overflow_add-x c = record { fits = omega (arith, room c, c.shared_slice_known-1.given (j c)) }
-
-pub loop-k-preserved : goal.loop-k-preserved
-loop-k-preserved c =
-    let a = c.args in
-    let k = c.loop-k.k in
-    let o = one_more a.line.now (j c) k (omega arith) in
-    let e : suc (j c) ≡ a.at + 8 - k = omega arith in
-    let f : a.at + 8 - (k + 1) ≡ j c = omega arith in
-    let g : k + 1 ≡ suc k = omega arith in
-    let n : 8 * (k + 1) ≡ 8 * k + 8 = omega arith in
-    let y = ap (λ (i : ℕ). lanes_of 8 (take k (drop i a.line.now))) e in
-    (omega arith, rw (f, g) (omega (arith, o, c.loop-k.invariant.1, y)), rw (n, pow-add 2 (8 * k) 8) (omega (arith, c.loop-k.invariant.2, c.shared_slice_known-1.given (j c))))
+lanes_eight [] e = absurd (omega arith)
+lanes_eight (a ∷ []) e = absurd (omega arith)
+lanes_eight (a ∷ b ∷ []) e = absurd (omega arith)
+lanes_eight (a ∷ b ∷ c ∷ []) e = absurd (omega arith)
+lanes_eight (a ∷ b ∷ c ∷ d ∷ []) e = absurd (omega arith)
+lanes_eight (a ∷ b ∷ c ∷ d ∷ f ∷ []) e = absurd (omega arith)
+lanes_eight (a ∷ b ∷ c ∷ d ∷ f ∷ g ∷ []) e = absurd (omega arith)
+lanes_eight (a ∷ b ∷ c ∷ d ∷ f ∷ g ∷ h ∷ []) e = absurd (omega arith)
+lanes_eight (a ∷ b ∷ c ∷ d ∷ f ∷ g ∷ h ∷ i ∷ []) e = omega arith
+lanes_eight (a ∷ b ∷ c ∷ d ∷ f ∷ g ∷ h ∷ i ∷ j ∷ l) e = absurd (omega arith)
 
 -- what each step comes to
-module _ (c : After-loop-k) where
+module _ (c : After-from_le_bytes-x) where
   abbrev l : List ℕ
-  l = take 8 (drop c.args.at c.args.line.now)
+  l = c.args.digits.now
 
   size : length l ≡ 8
-  size = part_length c.args.line.now c.args.at 8 (omega arith)
+  size = c.told-digits
 
   -- eight digits, four numbers of two and two of four
   abbrev one : List ℕ
@@ -76,7 +51,7 @@ module _ (c : After-loop-k) where
   four_size = lane.joined_length 8 2 two two_size
 
   one_below : Below 4 one
-  one_below = lane.worths_below l c.requires.1
+  one_below = lane.worths_below l c.requires
 
   two_below : Below 8 two
   two_below = lane.joined_below 4 one one_below
@@ -85,7 +60,7 @@ module _ (c : After-loop-k) where
   four_below = lane.joined_below 8 two two_below
 
   abbrev x : ℕ
-  x = c.loop-k.x
+  x = c.from_le_bytes-x.result
 
   abbrev letters : ℕ
   letters = bit_and (x / 64) 0x0101_0101_0101_0101
@@ -100,24 +75,21 @@ module _ (c : After-loop-k) where
   halves = bit_and (bytes * 256 + bytes / 65536) 0x0000_ffff_0000_ffff
 
   x_is : x ≡ lanes_of 8 l
-  x_is =
-      let k : c.loop-k.k ≡ 8 = omega arith in
-      let e : c.args.at + 8 - c.loop-k.k ≡ c.args.at = omega arith in
-      c.loop-k.invariant.1 ∙ ap₂ (λ (i j : ℕ). lanes_of 8 (take i (drop j c.args.line.now))) k e
+  x_is = c.from_le_bytes-x.ensures ∙ lanes_eight l size
 
   ones_are : lane.ones l ≡ 0x0101_0101_0101_0101
   unfolding lanes_of
   ones_are = ap (λ (n : ℕ). lanes_of 8 (replicate n 1)) size
 
   letters_is : letters ≡ lanes_of 8 (map lane.letter_of l)
-  letters_is = ap₂ (λ (y z : ℕ). bit_and (y / 64) z) x_is (sym ones_are) ∙ lane.letters_are l c.requires.1
+  letters_is = ap₂ (λ (y z : ℕ). bit_and (y / 64) z) x_is (sym ones_are) ∙ lane.letters_are l c.requires
 
   letters_le : letters ≤ 0x0101_0101_0101_0101
   unfolding lanes_of
-  letters_le = omega (arith, letters_is, lane.lanes_le 8 1 8 (map lane.letter_of l) (length-map l lane.letter_of ∙ size) (lane.letters_below l c.requires.1))
+  letters_le = omega (arith, letters_is, lane.lanes_le 8 1 8 (map lane.letter_of l) (length-map l lane.letter_of ∙ size) (lane.letters_below l c.requires))
 
   x_parts : x ≡ 0x3030_3030_3030_3030 + lanes_of 8 one + 7 * letters
-  x_parts = omega (arith, x_is, lane.worths_are l c.requires.1, ones_are, letters_is)
+  x_parts = omega (arith, x_is, lane.worths_are l c.requires, ones_are, letters_is)
 
   worths_is : worths ≡ lanes_of 8 one
   worths_is = omega (arith, x_parts)

@@ -1,42 +1,27 @@
--- `lines::parse` tests the line and reads its numbers. Assumes nothing.
-use Rattle.std.proofs.Common.{◌≡◌, true, sym, ap, ◌∙◌}
-use Rattle.numbers.proofs.Read.{zreads}
-use Rattle.rows.proofs.Choice.{not_true, not_false}
-use Rattle.lines.specs.Line.{Frame, frame_of, formed_of}
-use Rattle.lines.specs.Answers.{accepted_of}
+-- `lines::parse` reads the fields of a well-formed line. Assumes nothing.
+use Rattle.std.proofs.Common.{◌≡◌, ℕ, ℤ, List, false, sym, ap, ap₂, ◌∙◌, w16, rules}
+use Rattle.numbers.proofs.Read.{back}
+use Rattle.refusals.specs.Refusal.{number_of}
+use Rattle.lines.specs.declared.Frame.{Frame}
+use Rattle.lines.specs.Line.{frame_of, formed_of}
+use Rattle.lines.specs.Answers.{accepted_of, decoded_in, parsed_of}
 use Rattle.lines.proofs.Answers.{parsed_malformed, parsed_formed}
 use Rattle.lines.proofs.parse.Goals as goal
-use Rattle.lines.proofs.parse.Goals.{After-lags_of-lags, Else-not-formed}
 
-pub returns-then-not-formed : goal.returns-then-not-formed
-returns-then-not-formed c =
-    let s = c.args.line.now in
-    c.refused.ensures ∙ sym (parsed_malformed s (sym c.formed.ensures ∙ not_true c.if-not-formed.true-raw))
+pub returns-in_default : goal.returns-in_default
+unfolding decoded_in number_of
+returns-in_default c =
+    let t : formed_of c.args.line.now ≡ false = search rules in
+    sym (parsed_malformed c.args.line.now t)
 
-formed_is : (c : Else-not-formed) → formed_of c.args.line.now ≡ true
-formed_is c = sym c.formed.ensures ∙ not_false c.if-not-formed.false-raw
-
-pub acf_of-acf-requires : goal.acf_of-acf-requires
-acf_of-acf-requires c = formed_is c
-
-pub scale_of-scale-requires : goal.scale_of-scale-requires
-scale_of-scale-requires c = formed_is (goal.at.scale_of-scale-requires c).Else-not-formed
-
-pub lags_of-lags-requires : goal.lags_of-lags-requires
-lags_of-lags-requires c = formed_is (goal.at.lags_of-lags-requires c).Else-not-formed
-
--- what was read is the line's frame
-abbrev got : After-lags_of-lags → Frame
-got c = record { acf = c.acf_of-acf.result; scale = c.scale_of-scale.result; lags = c.lags_of-lags.result }
-
-frame_is : (c : After-lags_of-lags) → got c ≡ frame_of c.args.line.now
-unfolding frame_of
-frame_is c = rw (c.lags_of-lags.ensures, c.scale_of-scale.ensures, c.acf_of-acf.ensures)
+-- a frame by its fields
+fields : (f : Frame) (a : List ℤ) (s : ℤ) (g : List ℕ) → a ≡ f.acf → s ≡ f.scale → g ≡ f.lags → record { acf = a; scale = s; lags = g } ≡ f
+fields f a s g p q r = ap₂ (λ (x : List ℤ) (y : ℤ). record { acf = x; scale = y; lags = g }) p q ∙ ap (λ (z : List ℕ). record { acf = f.acf; scale = f.scale; lags = z }) r
 
 pub returns : goal.returns
-unfolding accepted_of
+unfolding decoded_in frame_of
 returns c =
-    let s = c.args.line.now in
-    let o = c.scale_of-scale.type_inv in
-    let e = ap accepted_of (frame_is c) ∙ sym (parsed_formed s (formed_is (goal.at.returns c).Else-not-formed)) in
-    simp zreads e
+    let l = c.in-Some.formed.line.now in
+    let e : l ≡ c.args.line.now = search rules in
+    let s = back w16 {z = c.scale.result} c.scale.type_inv ∙ c.scale.ensures in
+    ap accepted_of (fields (frame_of l) _ _ _ c.acf-acf.ensures s c.lags-lags.ensures) ∙ (sym (parsed_formed l c.in-Some.formed.formed) ∙ ap parsed_of e)

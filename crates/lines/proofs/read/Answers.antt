@@ -1,55 +1,35 @@
 -- `lines::read` looks at the buffers, then at the line, and stores an accepted frame. Assumes nothing.
-use Rattle.std.proofs.Common.{◌≡◌, ℕ, ℤ, sym, refl, ap, ◌∙◌, ap₂, arith, w16}
-use Rattle.numbers.proofs.Read.{back}
-use Rattle.lines.specs.Answers.{refused_of, accepted_of, heading_of}
-use Rattle.lines.specs.declared.Decoded.{Decoded}
-use Rattle.lines.specs.declared.Heading.{Heading}
-use Rattle.lines.proofs.Answers.{lengths_no, lengths_no_lags, lengths_yes, accepted_is, read_unsized, read_sized, read_kept, read_stored}
+use Rattle.std.proofs.Common.{ℤ, ap, ◌∙◌, w16, SFits, to_z-of_z, rules}
+use Rattle.std.specs.Prelude.{Ok}
+use Rattle.std.proofs.lemmas.Result.{err_from_is_err_and}
+use Rattle.lines.specs.Answers.{heading_in}
+use Rattle.lines.proofs.Answers.{lengths_no, lengths_no_lags, lengths_yes, unsized_read, refused_read, accepted_read}
 use Rattle.lines.proofs.read.Goals as goal
-use Rattle.lines.proofs.read.Goals.{Else-n-ne0}
+use Rattle.lines.proofs.read.Goals.{then-acf-ne-NUMBERS-via-then-acf-ne-NUMBERS, then-acf-ne-NUMBERS-via-else-acf-ne-NUMBERS+then-lags-ne-LAGS}
 
 pub returns-then-acf-ne-NUMBERS : goal.returns-then-acf-ne-NUMBERS
-unfolding heading_of refused_of
 returns-then-acf-ne-NUMBERS c =
-    let k =
-    read_kept c.args.acf.now c.args.lags.now c.args.line.now _
-    (read_unsized c.args.acf.now c.args.lags.now c.args.line.now (lengths_no c.args.acf.now c.args.lags.now c.if-acf-ne-NUMBERS.true)) (λ z. omega arith) in
+    let a = c.args.acf.now in
+    let g = c.args.lags.now in
+    let k = unsized_read a g c.args.line.now (elim c.then-acf-ne-NUMBERS.branch [
+      | then-acf-ne-NUMBERS-via-then-acf-ne-NUMBERS w ↦ lengths_no a g w.if-acf-ne-NUMBERS.true
+      | then-acf-ne-NUMBERS-via-else-acf-ne-NUMBERS+then-lags-ne-LAGS w ↦ lengths_no_lags a g w.if-acf-ne-NUMBERS.false w.if-lags-ne-LAGS.true
+    ]) in
     record { value = k.0; acf_after = k.1.0; lags_after = k.1.1 }
 
-pub returns-then-lags-ne-LAGS : goal.returns-then-lags-ne-LAGS
-unfolding heading_of refused_of
-returns-then-lags-ne-LAGS c =
-    let k =
-    read_kept c.args.acf.now c.args.lags.now c.args.line.now _
-    (read_unsized c.args.acf.now c.args.lags.now c.args.line.now (lengths_no_lags c.args.acf.now c.args.lags.now (omega arith) c.if-lags-ne-LAGS.true)) (λ z. omega arith) in
-    record { value = k.0; acf_after = k.1.0; lags_after = k.1.1 }
-
-abbrev headed : ℕ → ℤ → Heading
-headed n x = record { refusal = n; scale = x }
-
-pub returns-then-n-ne0 : goal.returns-then-n-ne0
-unfolding heading_of
-returns-then-n-ne0 c =
-    let d = c.decode-d in
-    let b = back w16 {z = d.result.scale} c.struct_told-1.given.1.0.1 in
-    let k =
-    read_kept c.args.acf.now c.args.lags.now c.args.line.now _
-    (read_sized c.args.acf.now c.args.lags.now c.args.line.now (lengths_yes c.args.acf.now c.args.lags.now (omega arith) (omega arith)) ∙ (sym (ap heading_of d.ensures) ∙ ap (headed d.result.refusal) (sym b))) c.if-n-ne0.true in
-    record { value = k.0; acf_after = k.1.0; lags_after = k.1.1 }
-
-zero_is : (c : Else-n-ne0) → c.decode-d.result.refusal ≡ 0
-zero_is c = omega arith
+pub returns-in_err-frame : goal.returns-in_err-frame
+returns-in_err-frame c =
+    let a = c.args.acf.now in
+    let g = c.args.lags.now in
+    let p = err_from_is_err_and c.from_residual.result c.from_residual.ensures.1 in
+    let k = refused_read a g c.args.line.now _ (lengths_yes a g c.if-acf-ne-NUMBERS.false c.if-lags-ne-LAGS.false) c.in_err-frame.ensures in
+    record { value = rw (p.1, p.2) k.0; acf_after = k.1.0; lags_after = k.1.1 }
 
 pub returns : goal.returns
-unfolding heading_of accepted_of
 returns c =
-    let d = c.decode-d in
-    let z = zero_is (goal.at.returns c).Else-n-ne0 in
-    let b = back w16 {z = d.result.scale} c.struct_told-2-1.given.1.0.1 in
-    let i = accepted_is c.args.line.now (ap (λ (x : Decoded). x.refusal) (sym d.ensures) ∙ z) in
-    let k =
-    read_stored c.args.acf.now c.args.lags.now c.args.line.now _ _ _
-    (read_sized c.args.acf.now c.args.lags.now c.args.line.now (lengths_yes c.args.acf.now c.args.lags.now (omega arith) (omega arith)) ∙ (sym (ap heading_of d.ensures) ∙ ap₂ headed z (sym b))) refl
-    (c.store_acf.ensures ∙ ap (λ (x : Decoded). x.acf) (d.ensures ∙ i))
-    (c.store_lags.ensures ∙ ap (λ (x : Decoded). x.lags) (d.ensures ∙ i)) in
-    record { value = k.0; acf_after = k.1.0; lags_after = k.1.1 }
+    let a = c.args.acf.now in
+    let g = c.args.lags.now in
+    let f = c.in_ok-frame.frame in
+    let b : SFits w16 f.scale = search rules in
+    let k = accepted_read a g c.args.line.now f _ _ (lengths_yes a g c.if-acf-ne-NUMBERS.false c.if-lags-ne-LAGS.false) c.in_ok-frame.ensures c.copy_from_slice.ensures.after c.copy_from_slice-2.ensures.after in
+    record { value = ap (λ (x : ℤ). heading_in (Ok x)) (to_z-of_z b) ∙ k.0; acf_after = k.1.0; lags_after = k.1.1 }

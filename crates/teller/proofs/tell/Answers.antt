@@ -11,7 +11,8 @@ use mir.Val.{SFits}
 use Rattle.numbers.proofs.Read.{zreads}
 use Rattle.frames.specs.Frame.{Direction, down, direction_of}
 use Rattle.frames.specs.Direction.{direction_in}
-use Rattle.lines.specs.declared.Decoded.{Decoded}
+use Rattle.lines.specs.Answers.{Decoded, accepted_of}
+use Rattle.lines.proofs.Answers.{decoded_err, decoded_ok}
 use Rattle.samples.specs.declared.Samples.{Samples}
 use Rattle.samples.specs.Samples.{sof_of, read_of}
 use Rattle.samples.proofs.Frame.{read_is, read_most}
@@ -22,11 +23,11 @@ use Rattle.teller.proofs.Steps.{told_no, told_ok}
 use Rattle.teller.proofs.tell.Goals as goal
 use Rattle.teller.proofs.tell.Goals.{After-explain, then-h, else-h}
 
-pub returns-then-d-ne0 : goal.returns-then-d-ne0
+pub returns-in-Err : goal.returns-in-Err
 unfolding denied_of
-returns-then-d-ne0 c =
-    let n = ap (λ (x : Decoded). x.refusal) c.decode-d.ensures in
-    ap (λ (k : ℕ). denied_of k c.args.h) n ∙ sym (told_no c.args.h c.args.block.now c.args.line.now (λ z. c.if-d-ne0.true (n ∙ z)))
+returns-in-Err c =
+    let d = decoded_err c.args.line.now _ c.in-Err.ensures in
+    ap (λ (k : ℕ). denied_of k c.args.h) (c.number.ensures.value ∙ d.0) ∙ sym (told_no c.args.h c.args.block.now c.args.line.now d.1)
 
 -- what is read of the bytes are their samples
 heard : (block : List ℕ) (s : Samples) → s ≡ read_of block → take s.count s.sof ≡ sof_of block
@@ -50,18 +51,18 @@ way_is c =
 
 -- the reasons of what was read
 explain_is : (c : After-explain)
-    → explained_in c.explain.result ≡ explained_for (direction_by c.args.h.downlink c.args.block.now) c.args.h.explainer c.decode-d.result.acf c.decode-d.result.lags c.decode-d.result.scale
+    → explained_in c.explain.result ≡ explained_for (direction_by c.args.h.downlink c.args.block.now) c.args.h.explainer c.in-Ok.frame.acf c.in-Ok.frame.lags c.in-Ok.frame.scale
 explain_is c =
-    let r = c.decode-d.result in
-    let f : SFits w16 c.decode-d.result.scale = search rules in
+    let r = c.in-Ok.frame in
+    let f : SFits w16 c.in-Ok.frame.scale = search rules in
     let e : explained_in c.explain.result ≡ explained_for (direction_in c.if-h.direction) c.args.h.explainer r.acf r.lags r.scale = simp zreads at c.explain.ensures.value in
     e ∙ ap (λ (d : Direction). explained_for d c.args.h.explainer r.acf r.lags r.scale) (way_is c)
 
-pub returns : goal.returns
-returns c =
-    let d = c.decode-d.ensures in
+pub returns-in-Ok : goal.returns-in-Ok
+unfolding accepted_of
+returns-in-Ok c =
+    let d = decoded_ok c.args.line.now c.in-Ok.frame c.in-Ok.ensures in
     let h = c.args.h in
-    let n = ap (λ (x : Decoded). x.refusal) d in
     c.sent.ensures
-    ∙ ap (sent_of h.downlink) (explain_is (goal.at.returns c).After-explain ∙ ap (λ (x : Decoded). explained_for (direction_by h.downlink c.args.block.now) h.explainer x.acf x.lags x.scale) d)
-    ∙ sym (told_ok h c.args.block.now c.args.line.now (sym n ∙ c.if-d-ne0.false))
+    ∙ ap (sent_of h.downlink) (explain_is (goal.at.returns-in-Ok c).After-explain ∙ ap (λ (x : Decoded). explained_for (direction_by h.downlink c.args.block.now) h.explainer x.acf x.lags x.scale) d.1)
+    ∙ sym (told_ok h c.args.block.now c.args.line.now d.0)
