@@ -18,7 +18,7 @@ use pairs::Pair;
 use rows::{all_within, within};
 use state::State;
 
-// The numbers of a state, and of an answer. Which stands where is in specs/Run.antt.
+// The numbers of a state, and of an answer, as C has them. Which stands where is in specs/Run.antt.
 const RUN: usize = 85;
 
 const ANSWER: usize = 6;
@@ -33,7 +33,7 @@ fn shorts(run: &[i32; RUN], first: usize, count: usize) -> bool
     all_within(-32768, 32767, &run[first..first + count])
 }
 
-// Whether each number fits its field.
+// Whether each number fits its field. That it does is asked for by two functions alone, so that a run needs no type of its own.
 fn narrow(run: &[i32; RUN]) -> bool
     ensures { result ≡ library.narrow_of run.now }
 {
