@@ -103,6 +103,7 @@ fn flag(x: i32) -> bool
 }
 
 // The state in a run whose numbers fit.
+#[tactic(auto, using(crate::proofs::Parted::filter_fits, crate::proofs::Parted::places_fit))]
 fn unpacked(run: [i32; RUN]) -> State
     requires { library.narrow_of run ≡ true }
     ensures { result ≡ library.state_of run }
