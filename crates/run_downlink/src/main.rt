@@ -2,7 +2,6 @@
 // the next 320 bytes of the samples; what the samples hold more than that is not read.
 #![tactic(auto)]
 
-ghost use Rattle.std.specs.Prelude.{◌≤◌, length};
 ghost use Rattle.std.proofs.Common.{rules};
 
 use files::{Failed, Input, Steps};
