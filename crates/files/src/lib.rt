@@ -15,7 +15,7 @@ use std::{fs, io, str};
 // The name of a file, in fixed memory: no program allocates.
 type Name = ArrayVec<u8, 4096>;
 
-// The system's number of the error `File name too long`.
+// The system's number of the error `File name too long`, which the call for a word does not give.
 const TOO_LONG: i32 = 36;
 
 // What failed was named on standard error.
@@ -93,7 +93,8 @@ fn fail(rt: HostRuntime, name: &[u8], error: io::Error) -> Failed {
 
 // ---- inputs
 
-// How many words the program was called with, its own name among them.
+// How many words the program was called with, its own name among them. Each is read into the same fixed memory: the library's list of them would
+// allocate.
 pub fn words(rt: HostRuntime) -> usize {
     let mut word = [0u8; 4096];
     (0..usize::MAX)
@@ -158,7 +159,7 @@ impl Input {
             .map_err(|error| fail(rt, self.name(), error))
     }
 
-    // Reads until the piece is full or the input ends: how many bytes came.
+    // Reads until the piece is full or the input ends: how many bytes came. The loop counts bytes that came, and no index.
     pub fn fill(&mut self, rt: HostRuntime, piece: &mut [u8]) -> Result<usize, Failed>
         ensures prefix_len { IfOk result (λ n. IsPrefixLen n piece.new) }
         ensures piece_len_unchanged { length piece.new ≡ length piece.old }

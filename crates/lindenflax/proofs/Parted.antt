@@ -2,7 +2,7 @@
 use mathlib.Core.Path.{◌≡◌, refl, sym, ap, ◌∙◌}
 use mathlib.Core.Bool.{Bool, true, ◌&&◌}
 use mathlib.Core.List.{List, [], ◌∷◌, ◌++◌}
-use Prim.Native.Nat.{ℕ, zero, suc, ◌+◌, ◌<◌, ◌≤◌}
+use Prim.Native.Nat.{ℕ, zero, suc, ◌+◌, ◌-◌, ◌<◌, ◌≤◌}
 use native.Mathlib.Omega.{arith}
 use lib.IntN.{ℤ, pos, neg_ℤ}
 use lib.ListN.{length, take, drop, length-take, length-drop}
@@ -92,6 +92,9 @@ module _ (l : List ℤ) (n : length l ≡ 85) (t : narrow_of l ≡ true) where
 
   pub count_fits : (i : ℕ) → i < 7 → SFits w16 (at l (76 + i))
   count_fits i k = short_at 76 7 l (omega arith) tests.1 i k
+
+  pub places_fit : (i : ℕ) → 76 ≤ i → i < 83 → SFits w16 (at l i)
+  places_fit i from to = let e : 76 + (i - 76) ≡ i = omega arith in rw e at (count_fits (i - 76) (omega arith))
 
   -- the pointers, the last lag, and the tone
   pub sacf_within : Between (pos 0) (pos 27) (at l 37)

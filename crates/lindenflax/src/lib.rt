@@ -21,7 +21,7 @@ use refusals::{Refusal, number_in};
 use rows::{all_within, within};
 use state::State;
 
-// The numbers of a state, and of an answer. Which stands where is in specs/Run.antt.
+// The numbers of a state, and of an answer, as C has them. Which stands where is in specs/Run.antt.
 const RUN: usize = 85;
 
 const ANSWER: usize = 6;
@@ -36,7 +36,7 @@ fn shorts(run: &[i32; RUN], first: usize, count: usize) -> bool
     all_within(-32768, 32767, &run[first..first + count])
 }
 
-// Whether each number fits its field.
+// Whether each number fits its field. That it does is asked for by two functions alone, so that a run needs no type of its own.
 fn narrow(run: &[i32; RUN]) -> bool
     ensures { result ≡ library.narrow_of run.now }
 {
@@ -106,6 +106,7 @@ fn flag(x: i32) -> bool
 }
 
 // The state in a run whose numbers fit.
+#[tactic(auto, using(crate::proofs::Parted::filter_fits, crate::proofs::Parted::places_fit))]
 fn unpacked(run: [i32; RUN]) -> State
     requires { library.narrow_of run ≡ true }
     ensures { result ≡ library.state_of run }

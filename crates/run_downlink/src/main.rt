@@ -2,7 +2,6 @@
 // the next 320 bytes of the samples; what the samples hold more than that is not read.
 #![tactic(auto)]
 
-ghost use Rattle.std.specs.Prelude.{◌≤◌, length};
 ghost use Rattle.std.proofs.Common.{rules};
 
 use files::{Failed, Input, Steps};
@@ -23,6 +22,7 @@ impl Steps<1024> for Run {
 
     // Fills in the samples of the lines that end in a piece, feeds both, and writes the answers. Samples that can't be read end the run: no line is
     // answered as if they were missing.
+    #[tactic(auto, using(samples::proofs::Beside::feeds_most, listener::proofs::Calls::fed_fits))]
     fn step(&mut self, rt: HostRuntime, piece: &[u8]) -> Result<(), Failed> {
         let bytes = FRAME_BYTES * pieces::feeds(piece);
         let samples = &mut self.samples[..];
@@ -36,6 +36,7 @@ impl Steps<1024> for Run {
 }
 
 // Answers the trace and the samples that are named. Where the trace can't be read on, what is carried is answered as at its end.
+#[tactic(auto, using(listener::proofs::Calls::finish_fits))]
 fn answer(rt: HostRuntime) -> Result<(), Failed> {
     if files::words(rt) != 3 {
         files::complain(rt, &[b"run_downlink: a trace and its samples\n"]);

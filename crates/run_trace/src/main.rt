@@ -17,6 +17,7 @@ impl Steps<16384> for Run {
     type Stop = Failed;
 
     // Feeds a piece, and writes the answers.
+    #[tactic(auto, using(runner::proofs::Calls::wrote_fits))]
     fn step(&mut self, rt: HostRuntime, piece: &[u8]) -> Result<(), Failed> {
         let fed = runner::feed(self.runner, piece, &mut self.out);
         self.runner = fed.player;
@@ -27,6 +28,7 @@ impl Steps<16384> for Run {
 }
 
 // Answers the whole input. Where it can't be read on, what is carried is answered as at its end.
+#[tactic(auto, using(runner::proofs::Calls::finish_fits))]
 fn answer(rt: HostRuntime) -> Result<(), Failed> {
     let mut input = Input::open(rt, b"run_trace: one file at most\n")?;
     let mut run = Run {

@@ -21,6 +21,7 @@ struct Telling {
 }
 
 // Reads the samples of the lines that end in a piece; on the uplink there are none.
+#[tactic(auto, using(samples::proofs::Beside::feeds_most))]
 fn hear(
     rt: HostRuntime,
     sound: &mut Option<Input>,
@@ -45,6 +46,7 @@ impl Steps<1024> for Telling {
 
     // Reads the samples of a piece, feeds both, and writes what it is told. Samples that can't be read end it all: no line is told as if they were
     // missing.
+    #[tactic(auto, using(teller::proofs::Calls::wrote_fits))]
     fn step(&mut self, rt: HostRuntime, piece: &[u8]) -> Result<(), Failed> {
         let heard = hear(rt, &mut self.sound, piece, &mut self.samples)?;
         let fed = teller::feed(self.teller, piece, &self.samples[..heard], &mut self.out);
@@ -56,6 +58,7 @@ impl Steps<1024> for Telling {
 }
 
 // Tells of the whole trace, on the downlink where there is a sound. Where the trace can't be read on, what is carried is told as at its end.
+#[tactic(auto, using(teller::proofs::Calls::finish_fits))]
 fn tell_all(rt: HostRuntime, trace: &mut Input, sound: Option<Input>) -> Result<(), Failed> {
     let mut telling = Telling {
         teller: teller::start(sound.is_some()),
