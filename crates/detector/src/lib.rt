@@ -23,22 +23,23 @@ use state::{State, state_ok};
 use threshold::{Kept, adapt};
 use tone::tone;
 
-// The answer to a frame that is accepted; `stat` is what 6.4 finds in it.
+// The answer to a frame that is accepted; `stat` is what 6.4 finds in it. For speed, the state comes first here and in a refusal: a result has it at one
+// place then, whichever it is.
 #[derive(Clone, Copy)]
 pub struct Accepted {
+    pub next: State,
+    pub acf0: Pair,
+    pub pvad: Pair,
     pub vad: bool,
     pub vvad: bool,
     pub stat: bool,
-    pub acf0: Pair,
-    pub pvad: Pair,
-    pub next: State,
 }
 
-// A frame that is refused: why, and the state as it was given.
+// A frame that is refused: the state as it was given, and why.
 #[derive(Clone, Copy)]
 pub struct Refused {
-    pub refusal: Refusal,
     pub state: State,
+    pub refusal: Refusal,
 }
 
 // Whoever has the state still needs only the reason.

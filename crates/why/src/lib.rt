@@ -54,19 +54,19 @@ pub struct Explainer {
     pub latest: u32,
 }
 
-// The answer to a frame that is accepted, its reasons, and the run after it.
+// The run after a frame that is accepted, its answer, and its reasons.
 #[derive(Clone, Copy)]
 pub struct Explained {
+    pub next: Explainer,
     pub answer: Accepted,
     pub reasons: Reasons,
-    pub next: Explainer,
 }
 
-// A frame that is refused: why, and the run as it was.
+// A frame that is refused: the run as it was, and why.
 #[derive(Clone, Copy)]
 pub struct Denied {
-    pub refusal: Refusal,
     pub explainer: Explainer,
+    pub refusal: Refusal,
 }
 
 // A run before its first frame.
