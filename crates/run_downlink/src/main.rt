@@ -9,16 +9,19 @@ use files::{Failed, Input, Steps};
 use listener::Listener;
 use samples::FRAME_BYTES;
 
-// A run and its samples, and the room for those of a piece and for its answers.
+// The most bytes of a piece.
+const PIECE: usize = 1024;
+
+// A run and its samples, and the room for those of a piece and for its answers: no piece is refused.
 #[derive(Drop)]
 struct Run {
     listener: Listener,
     sound: Input,
-    samples: [u8; 327680],
-    out: [u8; 5120],
+    samples: [u8; FRAME_BYTES * PIECE],
+    out: [u8; 5 * PIECE],
 }
 
-impl Steps<1024> for Run {
+impl Steps<PIECE> for Run {
     type Stop = Failed;
 
     // Fills in the samples of the lines that end in a piece, feeds both, and writes the answers. Samples that can't be read end the run: no line is
@@ -27,9 +30,11 @@ impl Steps<1024> for Run {
         let bytes = FRAME_BYTES * pieces::feeds(piece);
         let samples = &mut self.samples[..];
         let heard = self.sound.fill(rt, &mut samples[..bytes])?;
-        let fed = listener::feed(self.listener, piece, &self.samples[..heard], &mut self.out);
-        self.listener = fed.player;
-        files::write(rt, &self.out[..fed.wrote])
+        let wrote = self
+            .listener
+            .feed(piece, &self.samples[..heard], &mut self.out)
+            .unwrap();
+        files::write(rt, &self.out[..wrote])
     }
 
     ghost fits_in_memory = { Prim.search rules };
@@ -46,12 +51,12 @@ fn answer(rt: HostRuntime) -> Result<(), Failed> {
     let mut run = Run {
         listener: listener::start(),
         sound,
-        samples: [0u8; 327680],
-        out: [0u8; 5120],
+        samples: [0u8; FRAME_BYTES * PIECE],
+        out: [0u8; 5 * PIECE],
     };
     run.each(rt, &mut trace)?;
-    let last = listener::finish(run.listener);
-    files::write(rt, &last.text[..last.wrote])
+    let wrote = run.listener.finish(&mut run.out).unwrap();
+    files::write(rt, &run.out[..wrote])
 }
 
 // What failed was named: the exit status says nothing.
