@@ -1,21 +1,21 @@
--- What a caller of `start`, `feed` and `finish` gets, by their promises alone, is what the run of the whole input writes, however the input is
+-- What a caller of `start`, and of `feed` and `finish` of a player, gets, by their promises alone, is what the run of the whole input writes, however the input is
 -- cut. Assumes nothing.
-use mathlib.Core.Path.{◌≡◌, refl, sym, ◌∙◌}
+use mathlib.Core.Path.{◌≡◌, refl, ◌∙◌}
 use mathlib.Core.List.{List, []}
-use Prim.Native.Nat.{ℕ, ◌≤◌}
-use native.Mathlib.Omega.{arith}
+use Prim.Native.Nat.{ℕ, ◌*◌, ◌≤◌}
+use lib.Dec.{eqb}
 use lib.ListN.{length}
+use Rattle.std.specs.Prelude.{Result}
+use Rattle.rows.specs.Choice.{IF◌THEN◌ELSE◌}
+use Rattle.refusals.specs.declared.Refusal.{Refusal}
 use Rattle.pieces.specs.Lines.{lines_of, plain_of}
 use Rattle.pieces.specs.Cut.{held_of}
 use Rattle.pieces.specs.Calls.{Call, pieces_of}
 use Rattle.pieces.specs.Pieces.{flat}
-use Rattle.pieces.proofs.Carried.{held_plain}
 use Rattle.samples.specs.Beside.{Beside, next_beside, text_beside}
 use Rattle.player.specs.declared.Player.{Player}
-use Rattle.player.specs.declared.Fed.{Fed}
-use Rattle.player.specs.Played.{whole_of, texts_of, finish_of as finish_in}
+use Rattle.player.specs.Played.{beside_of, whole_of, texts_of, carried_of, last_written}
 use Rattle.player.proofs.Calls as player
-use Rattle.runner.specs.Said as runner
 use Rattle.card.specs.History.{all_reset}
 use Rattle.exchange.specs.declared.Bank.{Bank}
 use Rattle.exchange.specs.Run.{channels, malformed, next_of, write_of, answers_of, run_of}
@@ -24,38 +24,36 @@ use Rattle.exchange.specs.Laws as law
 use Rattle.exchange.specs.Fed.{start_of, fed_of, finish_of, calls_from}
 use Rattle.exchange.proofs.Steps.{cut_text}
 
--- ---- a piece, as code makes it
-pub fed_fits : (x : Player Bank) (p : List ℕ) (n : ℕ) (f : Fed Bank) → f ≡ fed_of x p n → f.wrote ≤ n
-fed_fits x p n f e = player.fed_fits hears.next_of hears.text_of 4 law.text_most x p [] n f e
+-- ---- as code makes it: with room for it a piece isn't refused, nor is the end, and what they write is within the room
+pub fed_fits : (x : Player Bank) (p : List ℕ) (n : ℕ) (y : Result ℕ Refusal) → 4 * length p ≤ n → y ≡ fed_of x p n → player.Within y n
+fed_fits x p n y h e = player.fed_fits hears.next_of hears.text_of 4 law.text_most x p [] n y h e
 
--- ---- the end: what is carried is a line
-pub finish_fits : (x : Player Bank) → (finish_of x).wrote ≤ 4
-finish_fits x = player.finish_fits 4 x (hears.cut_of x.hearer)
+pub finish_fits : (x : Player Bank) (n : ℕ) (y : Result ℕ Refusal) → 4 ≤ n → y ≡ finish_of x n → player.Within y n
+finish_fits x n y h e = player.finish_fits hears.next_of hears.text_of 4 law.text_most x n y h e
 
+-- ---- all calls
+-- what the bank writes for the lines that it hears is what the run writes
+heard_lines : (b : Bank) (ls : List (List ℕ)) → texts_of hears.next_of hears.text_of (beside_of b []) ls ≡ answers_of b.states ls
+unfolding texts_of answers_of next_beside text_beside hears.next_of hears.text_of
+heard_lines b ls =
+    player.text_as (next_beside hears.next_of) (text_beside hears.text_of) next_of write_of (λ (x : Beside Bank). x.state.states) (λ x l. refl) (λ x l. refl) (beside_of b []) ls
+
+-- what a caller gets by the promises
+pub called : (cs : List (Call 4)) (o : List ℕ) → 4 ≤ length o → calls_from start_of cs o ≡ run_of (flat (pieces_of cs))
+unfolding run_of whole_of
+called cs o room =
+    player.called_alone hears.next_of hears.text_of 4 law.text_most law.short_next law.short_text o room (record { states = all_reset channels }) cs
+    ∙ heard_lines (record { states = all_reset channels }) (lines_of (flat (pieces_of cs)))
+
+-- ---- the end: what is carried is a line, answered as any other
+pub finish_text : (x : Player Bank) → last_written hears.next_of hears.text_of x ≡ answers_of x.hearer.states (lines_of (held_of x.finder))
+unfolding last_written carried_of
+finish_text x = heard_lines x.hearer (lines_of (held_of x.finder))
+
+-- and it is malformed
 heard_cut : (b : Bank) (s l : List ℕ) → plain_of l ≡ length l → hears.text_of b s l ≡ hears.cut_of b
 unfolding hears.text_of malformed
 heard_cut b s l p = cut_text b.states l p
 
--- which is answered as any other
-pub finish_text : (x : Player Bank) → (finish_of x).text ≡ write_of x.hearer.states (held_of x.finder)
-unfolding finish_in hears.text_of
-finish_text x = sym (heard_cut x.hearer [] (held_of x.finder) (held_plain x.finder))
-
-cut_room : (b : Bank) → length (hears.cut_of b) ≤ 4
-unfolding runner.text_of
-cut_room b = omega arith
-
--- ---- all calls
--- what the bank writes for the lines that it hears is what the run writes
-heard_all : (b : Bank) (input : List ℕ) → whole_of hears.next_of hears.text_of b [] input ≡ answers_of b.states (lines_of input)
-unfolding whole_of texts_of answers_of next_beside text_beside hears.next_of hears.text_of
-heard_all b input =
-    player.text_as (next_beside hears.next_of) (text_beside hears.text_of) next_of write_of (λ (x : Beside Bank). x.state.states) (λ x l. refl) (λ x l. refl)
-    (record { state = b; left = [] }) (lines_of input)
-
--- what a caller gets by the promises
-pub called : (cs : List (Call 4)) → calls_from start_of cs ≡ run_of (flat (pieces_of cs))
-unfolding run_of
-called cs =
-    player.called_alone hears.next_of hears.text_of 4 law.text_most law.short_next law.short_text 4 hears.cut_of cut_room heard_cut (record { states = all_reset channels }) cs
-    ∙ heard_all (record { states = all_reset channels }) (flat (pieces_of cs))
+pub finish_cut : (x : Player Bank) → last_written hears.next_of hears.text_of x ≡ (IF eqb (length (held_of x.finder)) 0 THEN [] ELSE hears.cut_of x.hearer)
+finish_cut x = player.last_is hears.next_of hears.text_of hears.cut_of heard_cut x

@@ -1,33 +1,41 @@
 -- What feeding a piece of a card's trace answers: an exchange holds the bank and the unfinished line. The lent output needs four bytes for each byte of
 -- the piece: with less the piece is refused, number 1, and nothing changes. `called` in `proofs/Calls.antt` shows that what the pieces write, in order,
 -- is what the run of the whole input writes. Assumes nothing.
-use Rattle.std.specs.Prelude.{List, [], ℕ}
+use Rattle.std.specs.Prelude.{List, [], ℕ, Result}
 use Rattle.pieces.specs.Calls.{Call}
+use Rattle.refusals.specs.declared.Refusal.{Refusal}
 use Rattle.player.specs.declared.Player.{Player}
-use Rattle.player.specs.declared.Fed.{Fed}
-use Rattle.player.specs.declared.Last.{Last}
 use Rattle.player.specs.Played as player
 use Rattle.runner.specs.Said.{answer_bytes}
 use Rattle.card.specs.History.{all_reset}
 use Rattle.exchange.specs.declared.Bank.{Bank}
 use Rattle.exchange.specs.Run.{channels}
-use Rattle.exchange.specs.Hears.{next_of, text_of, cut_of}
+use Rattle.exchange.specs.Hears.{next_of, text_of}
 
 abbrev pub start_of : Player Bank
 start_of = player.start_of (record { states = all_reset channels })
 
--- a piece, with n bytes of output lent
-abbrev pub fed_of : Player Bank → List ℕ → ℕ → Fed Bank
+-- a piece, with n bytes of output lent: how many bytes are written, or a refusal
+abbrev pub fed_of : Player Bank → List ℕ → ℕ → Result ℕ Refusal
 fed_of x p n = player.fed_of next_of text_of answer_bytes x p [] n
 
--- what the lent output holds afterwards
+-- the player and the lent output afterwards
+abbrev pub player_after : Player Bank → List ℕ → ℕ → Player Bank
+player_after x p n = player.player_after next_of answer_bytes x p [] n
+
 abbrev pub out_after : Player Bank → List ℕ → List ℕ → List ℕ
 out_after x p o = player.out_after next_of text_of answer_bytes x p [] o
 
--- what the end of the input gives: four bytes, of which `wrote` are written
-abbrev pub finish_of : Player Bank → Last answer_bytes
-finish_of x = player.finish_of answer_bytes x (cut_of x.hearer)
+-- the end of the input, with n bytes of output lent: what is carried is a line too
+abbrev pub finish_of : Player Bank → ℕ → Result ℕ Refusal
+finish_of x n = player.finish_of next_of text_of answer_bytes x n
 
--- a run whose input comes in pieces, by the promises
-abbrev pub calls_from : Player Bank → List (Call answer_bytes) → List ℕ
-calls_from x cs = player.calls_alone next_of text_of answer_bytes cut_of x cs
+abbrev pub ended_of : Player Bank → ℕ → Player Bank
+ended_of x n = player.ended_of next_of answer_bytes x n
+
+abbrev pub out_ended : Player Bank → List ℕ → List ℕ
+out_ended x o = player.out_ended next_of text_of answer_bytes x o
+
+-- a run whose input comes in pieces, by the promises, where the end is lent `o`
+abbrev pub calls_from : Player Bank → List (Call answer_bytes) → List ℕ → List ℕ
+calls_from x cs o = player.calls_alone next_of text_of x cs o

@@ -1,7 +1,7 @@
 // A card's trace run piece by piece: each line is an order on one of 64 channels. The bank, and what is unfinished, are carried by value.
 #![tactic(auto)]
 
-ghost use Rattle.std.specs.Prelude.{◌≡◌, length};
+ghost use Rattle.std.specs.Prelude.{◌≡◌};
 ghost use Rattle.lines.specs.Answers.{accepted_of};
 ghost use Rattle.runner.specs.Said.{answer_bytes, denied_of};
 ghost use Rattle.exchange.specs.Line as form;
@@ -38,12 +38,8 @@ pub struct Bank {
     pub states: [State; CHANNELS],
 }
 
-// A run between two pieces, what a piece is answered, and what the end of the input gives.
+// A run between two pieces.
 pub type Exchange = Player<Bank>;
-
-pub type Fed = player::Fed<Bank>;
-
-pub type Last = player::Last<ANSWER>;
 
 // What a line names: a channel of the bank, and its reset or the numbers of a frame; or 6, or 9, and channel 0.
 #[derive(Clone, Copy)]
@@ -180,27 +176,7 @@ impl Hearer for Bank {
 pub fn start() -> Exchange
     ensures { result ≡ piece.start_of }
 {
-    player::start(Bank {
+    Player::new(Bank {
         states: [State::reset(); CHANNELS],
     })
-}
-
-// Feeds a piece of the input; `out` has four bytes for each byte of the piece.
-pub fn feed(x: Exchange, input: &[u8], out: &mut [u8]) -> Fed
-    ensures value { result ≡ piece.fed_of x input.now (length out.old) }
-    ensures out_after { out.new ≡ piece.out_after x input.now out.old }
-{
-    player::feed(x, input, &[], out)
-}
-
-// The end of the input: what is carried is a line too, and malformed.
-pub fn finish(x: Exchange) -> Last
-    ensures { result ≡ piece.finish_of x }
-{
-    let malformed = runner::text(Reply {
-        refusal: 6,
-        vad: false,
-        vvad: false,
-    });
-    player::finish(x, malformed)
 }

@@ -1,18 +1,21 @@
--- What a caller of `start`, `feed` and `finish` gets, by their promises alone, is what the run of the whole trace beside all samples writes, however
+-- What a caller of `start`, and of `feed` and `finish` of a player, gets, by their promises alone, is what the run of the whole trace beside all samples writes, however
 -- the trace is cut. Assumes nothing.
 use mathlib.Core.Path.{◌≡◌, refl, ap, ◌∙◌}
-use mathlib.Core.List.{List}
-use Prim.Native.Nat.{ℕ, ◌≤◌}
-use native.Mathlib.Omega.{arith}
+use mathlib.Core.List.{List, []}
+use Prim.Native.Nat.{ℕ, ◌*◌, ◌≤◌}
+use lib.Dec.{eqb}
 use lib.ListN.{length}
+use Rattle.std.specs.Prelude.{Result}
+use Rattle.rows.specs.Choice.{IF◌THEN◌ELSE◌}
+use Rattle.refusals.specs.declared.Refusal.{Refusal}
 use Rattle.state.specs.Valid.{reset_of}
 use Rattle.pieces.specs.Lines.{lines_of, plain_of}
+use Rattle.pieces.specs.Cut.{held_of}
 use Rattle.pieces.specs.Calls.{Call, pieces_of}
 use Rattle.pieces.specs.Pieces.{flat}
 use Rattle.samples.specs.Beside.{Beside, next_beside, text_beside}
 use Rattle.player.specs.declared.Player.{Player}
-use Rattle.player.specs.declared.Fed.{Fed}
-use Rattle.player.specs.Played.{whole_of, texts_of}
+use Rattle.player.specs.Played.{whole_of, texts_of, last_written}
 use Rattle.player.proofs.Calls as player
 use Rattle.listener.specs.declared.Downlink.{Downlink}
 use Rattle.listener.specs.declared.Said.{Said}
@@ -23,21 +26,20 @@ use Rattle.listener.specs.Laws as law
 use Rattle.listener.specs.Fed.{start_of, fed_of, finish_of, calls_from}
 use Rattle.listener.proofs.Steps.{said_cut}
 
--- ---- a piece, as code makes it
-pub fed_fits : (r : Player Downlink) (p q : List ℕ) (n : ℕ) (f : Fed Downlink) → f ≡ fed_of r p q n → f.wrote ≤ n
-fed_fits r p q n f e = player.fed_fits hears.next_of hears.text_of 5 law.text_most r p q n f e
+-- ---- as code makes it: with room for it a piece isn't refused, nor is the end, and what they write is within the room
+pub fed_fits : (r : Player Downlink) (p q : List ℕ) (n : ℕ) (x : Result ℕ Refusal) → 5 * length p ≤ n → x ≡ fed_of r p q n → player.Within x n
+fed_fits r p q n x h e = player.fed_fits hears.next_of hears.text_of 5 law.text_most r p q n x h e
+
+pub finish_fits : (r : Player Downlink) (n : ℕ) (x : Result ℕ Refusal) → 5 ≤ n → x ≡ finish_of r n → player.Within x n
+finish_fits r n x h e = player.finish_fits hears.next_of hears.text_of 5 law.text_most r n x h e
 
 -- ---- the end: what is carried is a line, and malformed, whatever its samples
-pub finish_fits : (r : Player Downlink) → (finish_of r).wrote ≤ 5
-finish_fits r = player.finish_fits 5 r (hears.cut_of r.hearer)
-
 heard_cut : (d : Downlink) (b l : List ℕ) → plain_of l ≡ length l → hears.text_of d b l ≡ hears.cut_of d
 unfolding hears.text_of answer_of reply_of one.denied_of
 heard_cut d b l p = ap (λ (x : Said). one.text_of x.reply) (said_cut d.state b l p)
 
-cut_room : (d : Downlink) → length (hears.cut_of d) ≤ 5
-unfolding one.text_of
-cut_room d = omega arith
+pub finish_cut : (r : Player Downlink) → last_written hears.next_of hears.text_of r ≡ (IF eqb (length (held_of r.finder)) 0 THEN [] ELSE hears.cut_of r.hearer)
+finish_cut r = player.last_is hears.next_of hears.text_of hears.cut_of heard_cut r
 
 -- ---- all calls
 -- what the detector writes for the lines that it hears is what the run writes
@@ -48,8 +50,8 @@ heard_all d samples input =
     (record { state = d; left = samples }) (lines_of input)
 
 -- what a caller gets by the promises
-pub called : (samples : List ℕ) (cs : List (Call 5)) → calls_from start_of samples cs ≡ run_of (flat (pieces_of cs)) samples
+pub called : (samples : List ℕ) (cs : List (Call 5)) (o : List ℕ) → 5 ≤ length o → calls_from start_of samples cs o ≡ run_of (flat (pieces_of cs)) samples
 unfolding run_of
-called samples cs =
-    player.called_beside hears.next_of hears.text_of 5 law.text_most law.short_next law.short_text 5 hears.cut_of cut_room heard_cut (record { state = reset_of }) samples cs
+called samples cs o room =
+    player.called_beside hears.next_of hears.text_of 5 law.text_most law.short_next law.short_text o room hears.cut_of heard_cut (record { state = reset_of }) samples cs
     ∙ heard_all (record { state = reset_of }) samples (flat (pieces_of cs))

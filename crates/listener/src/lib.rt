@@ -1,7 +1,7 @@
 // Runs a trace with its samples on the downlink, piece by piece: what is unfinished is carried by value.
 #![tactic(auto)]
 
-ghost use Rattle.std.specs.Prelude.{◌≡◌, ◌<◌, length};
+ghost use Rattle.std.specs.Prelude.{◌≡◌, ◌<◌};
 ghost use Rattle.detector.specs.Result.{answer_of};
 ghost use Rattle.listener.specs.Said as one;
 ghost use Rattle.listener.specs.Hears as line;
@@ -21,12 +21,8 @@ pub struct Downlink {
     pub state: State,
 }
 
-// A run between two pieces, what a piece is answered, and what the end of the trace gives.
+// A run between two pieces.
 pub type Listener = Player<Downlink>;
-
-pub type Fed = player::Fed<Downlink>;
-
-pub type Last = player::Last<ANSWER>;
 
 // The answer to a line: its refusal number, vad, vvad, and the tone flag that is kept for the next frame.
 #[derive(Clone, Copy)]
@@ -148,28 +144,7 @@ impl Hearer for Downlink {
 pub fn start() -> Listener
     ensures { result ≡ piece.start_of }
 {
-    player::start(Downlink {
+    Player::new(Downlink {
         state: State::reset(),
     })
-}
-
-// Feeds a piece of the trace, with the samples of the lines that end in it; `out` has five bytes for each byte of the piece.
-pub fn feed(r: Listener, input: &[u8], samples: &[u8], out: &mut [u8]) -> Fed
-    ensures value { result ≡ piece.fed_of r input.now samples.now (length out.old) }
-    ensures out_after { out.new ≡ piece.out_after r input.now samples.now out.old }
-{
-    player::feed(r, input, samples, out)
-}
-
-// The end of the trace: what is carried is a line too, and malformed.
-pub fn finish(r: Listener) -> Last
-    ensures { result ≡ piece.finish_of r }
-{
-    let malformed = text(Reply {
-        refusal: 6,
-        vad: false,
-        vvad: false,
-        tone: r.hearer.state.tone,
-    });
-    player::finish(r, malformed)
 }

@@ -1,3 +1,4 @@
 pub mod Steps
 pub mod Piece
+pub mod Room
 pub mod Calls

@@ -16,7 +16,7 @@ use Rattle.samples.specs.Beside.{Beside, next_beside, text_beside}
 use Rattle.samples.proofs.Beside.{taken_left}
 use Rattle.player.specs.declared.Player.{Player}
 use Rattle.player.specs.declared.Ran.{Ran}
-use Rattle.player.specs.Played.{beside_of, heard_of, texts_of, ran_of, written_of, next_player, played_of}
+use Rattle.player.specs.Played.{beside_of, heard_of, texts_of, ran_of, written_of, next_player}
 use Rattle.player.proofs.Steps.{beside_most}
 
 module _ {H : Type 0} (next : H → List ℕ → List ℕ → H) (text : H → List ℕ → List ℕ → List ℕ) (k : ℕ) (most : (h : H) (b l : List ℕ) → length (text h b l) ≤ k)
@@ -37,10 +37,10 @@ module _ {H : Type 0} (next : H → List ℕ → List ℕ → H) (text : H → L
   first_room = head_room (next_beside next) (text_beside text) k m r.finder p x y (cut_head _ _ c e) (cut_mid _ _ c e) s₀ o room
 
   -- the first run
-  module _ (a : Ran H) (o₁ : List ℕ) (ha : a ≡ ran_of next text r.hearer q x 0) (wa : o₁ ≡ put_of o 0 (texts_of next text s₀ (lines_of x))) where
+  module _ (h₁ : H) (a : Ran) (o₁ : List ℕ) (ha : a ≡ ran_of next text r.hearer q x 0) (ea : h₁ ≡ (heard_of next s₀ (lines_of x)).state) (wa : o₁ ≡ put_of o 0 (texts_of next text s₀ (lines_of x))) where
     taken : (a.used ≤ length q) × (drop a.used q ≡ (state_after (next_beside next) s₀ (lines_of x)).left)
     unfolding ran_of heard_of
-    taken = taken_left next text (lines_of x) r.hearer q a.used (ap (λ (z : Ran H). z.used) ha)
+    taken = taken_left next text (lines_of x) r.hearer q a.used (ap (λ (z : Ran). z.used) ha)
 
     pub used_in : a.used ≤ length q
     used_in = taken.0
@@ -53,15 +53,15 @@ module _ {H : Type 0} (next : H → List ℕ → List ℕ → H) (text : H → L
     left_all = let d = length-drop a.used q in take_all (length q - a.used) (drop a.used q) (omega arith)
 
     abbrev s₁ : Beside H
-    s₁ = beside_of a.hearer left
+    s₁ = beside_of h₁ left
 
     e₁ : s₁ ≡ state_after (next_beside next) s₀ (lines_of x)
-    unfolding ran_of heard_of
-    e₁ = ap₂ beside_of (ap (λ (z : Ran H). z.hearer) ha) (left_all ∙ taken.1)
+    unfolding heard_of
+    e₁ = ap₂ beside_of ea (left_all ∙ taken.1)
 
     c₁ : a.wrote ≡ 0 + length (texts_of next text s₀ (lines_of x))
     unfolding ran_of
-    c₁ = ap (λ (z : Ran H). z.wrote) ha
+    c₁ = ap (λ (z : Ran). z.wrote) ha
 
     pub second_room : a.wrote + k * length (lines_of y) ≤ length o₁
     unfolding texts_of
@@ -70,19 +70,19 @@ module _ {H : Type 0} (next : H → List ℕ → List ℕ → H) (text : H → L
         (mid_room (next_beside next) (text_beside text) k m r.finder p x y (cut_head _ _ c e) (cut_mid _ _ c e) s₀ o room a.wrote c₁)
 
     -- and the second
-    module _ (b : Ran H) (o₂ : List ℕ) (hb : b ≡ ran_of next text a.hearer left y a.wrote) (wb : o₂ ≡ put_of o₁ a.wrote (texts_of next text s₁ (lines_of y))) where
+    module _ (h₂ : H) (b : Ran) (o₂ : List ℕ) (hb : b ≡ ran_of next text h₁ left y a.wrote) (eb : h₂ ≡ (heard_of next s₁ (lines_of y)).state) (wb : o₂ ≡ put_of o₁ a.wrote (texts_of next text s₁ (lines_of y))) where
       c₂ : b.wrote ≡ a.wrote + length (texts_of next text s₁ (lines_of y))
       unfolding ran_of
-      c₂ = ap (λ (z : Ran H). z.wrote) hb
+      c₂ = ap (λ (z : Ran). z.wrote) hb
 
-      both_hearer : b.hearer ≡ (next_player next r p q).hearer
-      unfolding ran_of heard_of texts_of next_player
+      both_hearer : h₂ ≡ (next_player next r p q).hearer
+      unfolding heard_of texts_of next_player
       both_hearer =
-          ap (λ (z : Ran H). z.hearer) hb
+          eb
           ∙ ap (λ (z : Beside H). z.state)
           (piece_state (next_beside next) (text_beside text) k m r.finder p x y (cut_head _ _ c e) (cut_mid _ _ c e) s₀ o room s₁ (state_after (next_beside next) s₁ (lines_of y)) a.wrote b.wrote o₁ o₂ e₁ refl c₁ c₂ wa wb)
 
-      both_count : b.wrote ≡ length (written_of next text r p q)
+      pub both_count : b.wrote ≡ length (written_of next text r p q)
       unfolding texts_of written_of
       both_count = piece_count (next_beside next) (text_beside text) k m r.finder p x y (cut_head _ _ c e) (cut_mid _ _ c e) s₀ o room s₁ (state_after (next_beside next) s₁ (lines_of y)) a.wrote b.wrote o₁ o₂ e₁ refl c₁ c₂ wa wb
 
@@ -90,6 +90,6 @@ module _ {H : Type 0} (next : H → List ℕ → List ℕ → H) (text : H → L
       unfolding texts_of written_of
       both_out = piece_out (next_beside next) (text_beside text) k m r.finder p x y (cut_head _ _ c e) (cut_mid _ _ c e) s₀ o room s₁ (state_after (next_beside next) s₁ (lines_of y)) a.wrote b.wrote o₁ o₂ e₁ refl c₁ c₂ wa wb
 
-      pub both_played : record { wrote = b.wrote; player = record { hearer = b.hearer; finder = c.rest } } ≡ played_of next text r p q
-      unfolding played_of next_player
-      both_played = rw (both_hearer, both_count, cut_rest _ _ c e)
+      pub both_next : record { hearer = h₂; finder = c.rest } ≡ next_player next r p q
+      unfolding next_player
+      both_next = rw (both_hearer, cut_rest _ _ c e)

@@ -1,12 +1,14 @@
 // Plays a trace to a hearer, piece by piece, with the samples beside its lines: what is unfinished is carried by value.
 #![tactic(auto)]
 
-ghost use Rattle.std.specs.Prelude.{◌≡◌, ℕ, ◌+◌, ◌*◌, ◌≤◌, List, length};
+ghost use Rattle.std.specs.Prelude.{◌≡◌, ℕ, ◌+◌, ◌*◌, ◌≤◌, List, length, leb};
 ghost use Rattle.pieces.specs.Lines.{lines_of, short};
+ghost use Rattle.pieces.specs.Cut.{held_of};
 ghost use Rattle.pieces.specs.Put.{put_of};
 ghost use Rattle.player.specs.Played as meaning;
 
 use pieces::Finder;
+use refusals::Refusal;
 
 // What hears the lines of a trace, one after the other, and writes what each is answered.
 pub trait Hearer: Copy {
@@ -42,43 +44,27 @@ pub struct Player<H> {
     pub finder: Finder,
 }
 
-// What some lines leave: the hearer, where the samples of the next line begin, and where the next answer is written.
+// How far some lines go: so many bytes of the samples they take, and there their answers end.
 #[derive(Clone, Copy)]
-pub struct Ran<H> {
-    pub hearer: H,
-    pub used: usize,
-    pub wrote: usize,
+struct Ran {
+    used: usize,
+    wrote: usize,
 }
 
-// How many bytes of answers a piece is given, and the player for the next piece.
-#[derive(Clone, Copy)]
-pub struct Played<H> {
-    pub wrote: usize,
-    pub player: Player<H>,
-}
-
-// What a piece is answered: its refusal number, how many bytes of the output are written, and the player for the next piece.
-#[derive(Clone, Copy)]
-pub struct Fed<H> {
-    pub refusal: u8,
-    pub wrote: usize,
-    pub player: Player<H>,
-}
-
-// What the end of the input gives: the first `wrote` bytes of `text`.
-#[derive(Clone, Copy)]
-pub struct Last<const N: usize> {
-    pub wrote: usize,
-    pub text: [u8; N],
+// What is carried of a line.
+fn carried(finder: &Finder) -> &[u8]
+    ensures { result.now ≡ held_of finder.now }
+{
+    &finder.line[..pieces::held(*finder)]
 }
 
 // Plays the lines of an input, each with its samples; the answers are written from `at` on.
-fn run<H: Hearer>(h: H, input: &[u8], samples: &[u8], out: &mut [u8], at: usize) -> Ran<H>
+fn run<H: Hearer>(hearer: &mut H, input: &[u8], samples: &[u8], out: &mut [u8], at: usize) -> Ran
     requires { at + H.MOST * length (lines_of input.now) ≤ length out.old }
-    ensures value { result ≡ meaning.ran_of H.next H.text h samples.now input.now at }
-    ensures out_after { out.new ≡ put_of out.old at (meaning.texts_of H.next H.text (meaning.beside_of h samples.now) (lines_of input.now)) }
+    ensures value { result ≡ meaning.ran_of H.next H.text hearer.old samples.now input.now at }
+    ensures hearer_after { hearer.new ≡ (meaning.heard_of H.next (meaning.beside_of hearer.old samples.now) (lines_of input.now)).state }
+    ensures out_after { out.new ≡ put_of out.old at (meaning.texts_of H.next H.text (meaning.beside_of hearer.old samples.now) (lines_of input.now)) }
 {
-    let mut hearer = h;
     let mut used: usize = 0;
     let mut wrote = at;
     let mut i: usize = 0;
@@ -89,83 +75,73 @@ fn run<H: Hearer>(h: H, input: &[u8], samples: &[u8], out: &mut [u8], at: usize)
         used = end;
         i = to;
     }
-    Ran {
-        hearer,
-        used,
-        wrote,
-    }
+    Ran { used, wrote }
 }
 
-// A trace before its first piece.
-pub fn start<H: Hearer>(hearer: H) -> Player<H>
-    ensures { result ≡ meaning.start_of hearer }
-{
-    Player {
-        hearer,
-        finder: pieces::start(),
+impl<H: Hearer> Player<H> {
+    // A trace before its first piece.
+    pub fn new(hearer: H) -> Player<H>
+        ensures { result ≡ meaning.start_of hearer }
+    {
+        Player {
+            hearer,
+            finder: pieces::start(),
+        }
     }
-}
 
-// Plays the lines that end in a piece, with their samples: the carried one, then those that lie whole in it.
-pub fn play<H: Hearer>(p: Player<H>, input: &[u8], samples: &[u8], out: &mut [u8]) -> Played<H>
-    requires { H.MOST * length input.now ≤ length out.old }
-    ensures value { result ≡ meaning.played_of H.next H.text p input.now samples.now }
-    ensures out_after { out.new ≡ put_of out.old 0 (meaning.written_of H.next H.text p input.now samples.now) }
-{
-    let c = pieces::cut(p.finder, input);
-    let a = run(p.hearer, &c.head[..c.n], samples, out, 0);
-    let b = run(
-        a.hearer,
-        &input[c.from..c.to],
-        &samples[a.used..],
-        out,
-        a.wrote,
-    );
-    Played {
-        wrote: b.wrote,
-        player: Player {
-            hearer: b.hearer,
-            finder: c.rest,
-        },
+    // Whether `out` has the most bytes of an answer for each of so many lines.
+    fn room(lines: usize, out: &[u8]) -> bool
+        ensures { result ≡ leb (H.MOST * lines) (length out.now) }
+    {
+        H::MOST.saturating_mul(lines) <= out.len()
     }
-}
 
-// Plays a piece where `out` has the most bytes of an answer for each of its bytes; with less it is refused.
-pub fn feed<H: Hearer>(p: Player<H>, input: &[u8], samples: &[u8], out: &mut [u8]) -> Fed<H>
-    requires { 1 ≤ H.MOST }
-    ensures value { result ≡ meaning.fed_of H.next H.text H.MOST p input.now samples.now (length out.old) }
-    ensures out_after { out.new ≡ meaning.out_after H.next H.text H.MOST p input.now samples.now out.old }
-{
-    if out.len() / H::MOST < input.len() {
-        return Fed {
-            refusal: 1,
-            wrote: 0,
-            player: p,
-        };
+    // Plays the lines that end in a piece, with their samples: the carried one, then those that lie whole in it. How many bytes of answers are written.
+    fn play(&mut self, input: &[u8], samples: &[u8], out: &mut [u8]) -> usize
+        requires { H.MOST * length input.now ≤ length out.old }
+        ensures value { result ≡ length (meaning.written_of H.next H.text self.old input.now samples.now) }
+        ensures player_after { self.new ≡ meaning.next_player H.next self.old input.now samples.now }
+        ensures out_after { out.new ≡ put_of out.old 0 (meaning.written_of H.next H.text self.old input.now samples.now) }
+    {
+        let c = pieces::cut(self.finder, input);
+        let a = run(&mut self.hearer, &c.head[..c.n], samples, out, 0);
+        let b = run(
+            &mut self.hearer,
+            &input[c.from..c.to],
+            &samples[a.used..],
+            out,
+            a.wrote,
+        );
+        self.finder = c.rest;
+        b.wrote
     }
-    let played = play(p, input, samples, out);
-    Fed {
-        refusal: 0,
-        wrote: played.wrote,
-        player: played.player,
-    }
-}
 
-// The end of the input: what is carried is a line too, which lacks its line feed. `text` is what such a line is answered.
-pub fn finish<H: Hearer, const N: usize>(p: Player<H>, text: [u8; N]) -> Last<N>
-    ensures { result ≡ meaning.finish_of N p text.entry }
-{
-    if pieces::held(p.finder) == 0 {
-        return Last { wrote: 0, text };
+    // Plays a piece: how many bytes of answers are written. Where `out` has less than the most bytes of an answer for each byte of the piece, it is
+    // refused, and nothing changes.
+    pub fn feed(&mut self, input: &[u8], samples: &[u8], out: &mut [u8]) -> Result<usize, Refusal>
+        ensures value { result ≡ meaning.fed_of H.next H.text H.MOST self.old input.now samples.now (length out.old) }
+        ensures player_after { self.new ≡ meaning.player_after H.next H.MOST self.old input.now samples.now (length out.old) }
+        ensures out_after { out.new ≡ meaning.out_after H.next H.text H.MOST self.old input.now samples.now out.old }
+    {
+        if !Self::room(input.len(), out) {
+            return Err(Refusal::Length);
+        }
+        Ok(self.play(input, samples, out))
     }
-    Last { wrote: N, text }
-}
 
-// The end of the input, heard by who writes nothing: what is carried is a line too.
-pub fn ended<H: Hearer>(p: Player<H>) -> H
-    requires { H.MOST ≡ 0 }
-    ensures { result ≡ meaning.ended_of H.next p }
-{
-    let n = pieces::held(p.finder);
-    run(p.hearer, &p.finder.line[..n], &[], &mut [], 0).hearer
+    // The end of the input: what is carried is a line too, which lacks its line feed and whose samples are not looked at. How many bytes are written.
+    // Where a line is carried and `out` has less than the most bytes of an answer, it is refused, and nothing changes.
+    pub fn finish(&mut self, out: &mut [u8]) -> Result<usize, Refusal>
+        ensures value { result ≡ meaning.finish_of H.next H.text H.MOST self.old (length out.old) }
+        ensures player_after { self.new ≡ meaning.ended_of H.next H.MOST self.old (length out.old) }
+        ensures out_after { out.new ≡ meaning.out_ended H.next H.text H.MOST self.old out.old }
+    {
+        let line = carried(&self.finder);
+        if !Self::room(line.len().min(1), out) {
+            return Err(Refusal::Length);
+        }
+        let last = run(&mut self.hearer, line, &[], out, 0);
+        self.finder = pieces::start();
+        Ok(last.wrote)
+    }
 }

@@ -6,38 +6,38 @@ ghost use Rattle.std.proofs.Common.{rules};
 use exchange::Exchange;
 use files::{Failed, Input, Steps};
 
-// A run, and the room for the answers of a piece.
+// The most bytes of a piece.
+const PIECE: usize = 65536;
+
+// A run, and the room for the answers of a piece: no piece is refused.
 #[derive(Drop)]
 struct Run {
     exchange: Exchange,
-    out: [u8; 262144],
+    out: [u8; 4 * PIECE],
 }
 
-impl Steps<65536> for Run {
+impl Steps<PIECE> for Run {
     type Stop = Failed;
 
     // Feeds a piece, and writes the answers.
-    #[tactic(auto, using(exchange::proofs::Calls::wrote_fits))]
     fn step(&mut self, rt: HostRuntime, piece: &[u8]) -> Result<(), Failed> {
-        let fed = exchange::feed(self.exchange, piece, &mut self.out);
-        self.exchange = fed.player;
-        files::write(rt, &self.out[..fed.wrote])
+        let wrote = self.exchange.feed(piece, &[], &mut self.out).unwrap();
+        files::write(rt, &self.out[..wrote])
     }
 
     ghost fits_in_memory = { Prim.search rules };
 }
 
 // Answers the whole input. Where it can't be read on, what is carried is answered as at its end.
-#[tactic(auto, using(exchange::proofs::Calls::finish_fits))]
 fn answer(rt: HostRuntime) -> Result<(), Failed> {
     let mut input = Input::open(rt, b"run_card: one file at most\n")?;
     let mut run = Run {
         exchange: exchange::start(),
-        out: [0u8; 262144],
+        out: [0u8; 4 * PIECE],
     };
     run.each(rt, &mut input)?;
-    let last = exchange::finish(run.exchange);
-    files::write(rt, &last.text[..last.wrote])
+    let wrote = run.exchange.finish(&mut run.out).unwrap();
+    files::write(rt, &run.out[..wrote])
 }
 
 // What failed was named: the exit status says nothing.

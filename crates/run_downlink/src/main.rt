@@ -2,41 +2,45 @@
 // the next 320 bytes of the samples; what the samples hold more than that is not read.
 #![tactic(auto)]
 
+ghost use Rattle.std.specs.Prelude.{◌≤◌, length};
 ghost use Rattle.std.proofs.Common.{rules};
 
 use files::{Failed, Input, Steps};
 use listener::Listener;
 use samples::FRAME_BYTES;
 
-// A run and its samples, and the room for those of a piece and for its answers.
+// The most bytes of a piece.
+const PIECE: usize = 1024;
+
+// A run and its samples, and the room for those of a piece and for its answers: no piece is refused.
 #[derive(Drop)]
 struct Run {
     listener: Listener,
     sound: Input,
-    samples: [u8; 327680],
-    out: [u8; 5120],
+    samples: [u8; FRAME_BYTES * PIECE],
+    out: [u8; 5 * PIECE],
 }
 
-impl Steps<1024> for Run {
+impl Steps<PIECE> for Run {
     type Stop = Failed;
 
     // Fills in the samples of the lines that end in a piece, feeds both, and writes the answers. Samples that can't be read end the run: no line is
     // answered as if they were missing.
-    #[tactic(auto, using(samples::proofs::Beside::feeds_most, listener::proofs::Calls::fed_fits))]
     fn step(&mut self, rt: HostRuntime, piece: &[u8]) -> Result<(), Failed> {
         let bytes = FRAME_BYTES * pieces::feeds(piece);
         let samples = &mut self.samples[..];
         let heard = self.sound.fill(rt, &mut samples[..bytes])?;
-        let fed = listener::feed(self.listener, piece, &self.samples[..heard], &mut self.out);
-        self.listener = fed.player;
-        files::write(rt, &self.out[..fed.wrote])
+        let wrote = self
+            .listener
+            .feed(piece, &self.samples[..heard], &mut self.out)
+            .unwrap();
+        files::write(rt, &self.out[..wrote])
     }
 
     ghost fits_in_memory = { Prim.search rules };
 }
 
 // Answers the trace and the samples that are named. Where the trace can't be read on, what is carried is answered as at its end.
-#[tactic(auto, using(listener::proofs::Calls::finish_fits))]
 fn answer(rt: HostRuntime) -> Result<(), Failed> {
     if files::words(rt) != 3 {
         files::complain(rt, &[b"run_downlink: a trace and its samples\n"]);
@@ -47,12 +51,12 @@ fn answer(rt: HostRuntime) -> Result<(), Failed> {
     let mut run = Run {
         listener: listener::start(),
         sound,
-        samples: [0u8; 327680],
-        out: [0u8; 5120],
+        samples: [0u8; FRAME_BYTES * PIECE],
+        out: [0u8; 5 * PIECE],
     };
     run.each(rt, &mut trace)?;
-    let last = listener::finish(run.listener);
-    files::write(rt, &last.text[..last.wrote])
+    let wrote = run.listener.finish(&mut run.out).unwrap();
+    files::write(rt, &run.out[..wrote])
 }
 
 // What failed was named: the exit status says nothing.

@@ -6,38 +6,38 @@ ghost use Rattle.std.proofs.Common.{rules};
 use files::{Failed, Input, Steps};
 use runner::Runner;
 
-// A run, and the room for the answers of a piece.
+// The most bytes of a piece.
+const PIECE: usize = 16384;
+
+// A run, and the room for the answers of a piece: no piece is refused.
 #[derive(Drop)]
 struct Run {
     runner: Runner,
-    out: [u8; 65536],
+    out: [u8; 4 * PIECE],
 }
 
-impl Steps<16384> for Run {
+impl Steps<PIECE> for Run {
     type Stop = Failed;
 
     // Feeds a piece, and writes the answers.
-    #[tactic(auto, using(runner::proofs::Calls::wrote_fits))]
     fn step(&mut self, rt: HostRuntime, piece: &[u8]) -> Result<(), Failed> {
-        let fed = runner::feed(self.runner, piece, &mut self.out);
-        self.runner = fed.player;
-        files::write(rt, &self.out[..fed.wrote])
+        let wrote = self.runner.feed(piece, &[], &mut self.out).unwrap();
+        files::write(rt, &self.out[..wrote])
     }
 
     ghost fits_in_memory = { Prim.search rules };
 }
 
 // Answers the whole input. Where it can't be read on, what is carried is answered as at its end.
-#[tactic(auto, using(runner::proofs::Calls::finish_fits))]
 fn answer(rt: HostRuntime) -> Result<(), Failed> {
     let mut input = Input::open(rt, b"run_trace: one file at most\n")?;
     let mut run = Run {
         runner: runner::start(),
-        out: [0u8; 65536],
+        out: [0u8; 4 * PIECE],
     };
     run.each(rt, &mut input)?;
-    let last = runner::finish(run.runner);
-    files::write(rt, &last.text[..last.wrote])
+    let wrote = run.runner.finish(&mut run.out).unwrap();
+    files::write(rt, &run.out[..wrote])
 }
 
 // What failed was named: the exit status says nothing.

@@ -1,23 +1,23 @@
--- What a caller of `start`, `feed` and `finish` gets, by their promises alone, is what the run of the whole input writes, however the input is
+-- What a caller of `start`, and of `feed` and `finish` of a player, gets, by their promises alone, is what the run of the whole input writes, however the input is
 -- cut. Assumes nothing.
-use mathlib.Core.Path.{◌≡◌, refl, sym, ap, ◌∙◌}
+use mathlib.Core.Path.{◌≡◌, refl, ap, ◌∙◌}
 use mathlib.Core.List.{List, []}
-use Prim.Native.Nat.{ℕ, ◌≤◌}
-use native.Mathlib.Omega.{arith}
+use Prim.Native.Nat.{ℕ, ◌*◌, ◌≤◌}
+use lib.Dec.{eqb}
 use lib.ListN.{length}
+use Rattle.std.specs.Prelude.{Result}
+use Rattle.rows.specs.Choice.{IF◌THEN◌ELSE◌}
+use Rattle.refusals.specs.declared.Refusal.{Refusal}
 use Rattle.state.specs.declared.State.{State}
 use Rattle.state.specs.Valid.{reset_of}
 use Rattle.pieces.specs.Lines.{lines_of, plain_of, short}
 use Rattle.pieces.specs.Cut.{finder_of, held_of}
 use Rattle.pieces.specs.Calls.{Call, pieces_of}
 use Rattle.pieces.specs.Pieces.{flat, handed_all}
-use Rattle.pieces.proofs.Carried.{held_plain}
 use Rattle.pieces.proofs.Caller.{text_whole}
 use Rattle.samples.specs.Beside.{Beside, next_beside, text_beside}
 use Rattle.player.specs.declared.Player.{Player}
-use Rattle.player.specs.declared.Fed.{Fed}
-use Rattle.player.specs.Played as player_specs
-use Rattle.player.specs.Played.{whole_of, texts_of}
+use Rattle.player.specs.Played.{beside_of, whole_of, texts_of, carried_of, last_written}
 use Rattle.player.proofs.Calls.{text_as, called_alone}
 use Rattle.player.proofs.Calls as player
 use Rattle.runner.specs.declared.Uplink.{Uplink}
@@ -34,18 +34,12 @@ heard_cut : (u : Uplink) (b l : List ℕ) → plain_of l ≡ length l → hears.
 unfolding hears.text_of answer_of reply_of one.denied_of
 heard_cut u b l p = ap (λ (x : Said). one.text_of x.reply) (said_cut u.state l p)
 
--- ---- a piece, as code makes it
-pub fed_fits : (r : Player Uplink) (p : List ℕ) (n : ℕ) (f : Fed Uplink) → f ≡ fed_of r p n → f.wrote ≤ n
-fed_fits r p n f e = player.fed_fits hears.next_of hears.text_of 4 law.text_most r p [] n f e
+-- ---- as code makes it: with room for it a piece isn't refused, nor is the end, and what they write is within the room
+pub fed_fits : (r : Player Uplink) (p : List ℕ) (n : ℕ) (x : Result ℕ Refusal) → 4 * length p ≤ n → x ≡ fed_of r p n → player.Within x n
+fed_fits r p n x h e = player.fed_fits hears.next_of hears.text_of 4 law.text_most r p [] n x h e
 
--- ---- the end: what is carried is a line
-pub finish_fits : (r : Player Uplink) → (finish_of r).wrote ≤ 4
-finish_fits r = player.finish_fits 4 r (hears.cut_of r.hearer)
-
--- which is answered `600`
-pub finish_text : (r : Player Uplink) → (finish_of r).text ≡ answer_of r.hearer.state (held_of r.finder)
-unfolding player_specs.finish_of hears.text_of
-finish_text r = sym (heard_cut r.hearer [] (held_of r.finder) (held_plain r.finder))
+pub finish_fits : (r : Player Uplink) (n : ℕ) (x : Result ℕ Refusal) → 4 ≤ n → x ≡ finish_of r n → player.Within x n
+finish_fits r n x h e = player.finish_fits hears.next_of hears.text_of 4 law.text_most r n x h e
 
 -- ---- all calls
 short_next : (s : State) (l : List ℕ) → next_of s (short l) ≡ next_of s l
@@ -62,19 +56,23 @@ unfolding run_of answers_of
 cut ps = text_whole next_of answer_of short_next short_text _ ps
 
 -- what the detector writes for the lines that it hears is what the run writes
-heard_all : (u : Uplink) (input : List ℕ) → whole_of hears.next_of hears.text_of u [] input ≡ answers_of u.state (lines_of input)
-unfolding whole_of texts_of answers_of next_beside text_beside hears.next_of hears.text_of
-heard_all u input =
-    text_as (next_beside hears.next_of) (text_beside hears.text_of) next_of answer_of (λ (b : Beside Uplink). b.state.state) (λ b l. refl) (λ b l. refl)
-    (record { state = u; left = [] }) (lines_of input)
-
-cut_room : (u : Uplink) → length (hears.cut_of u) ≤ 4
-unfolding one.text_of
-cut_room u = omega arith
+heard_lines : (u : Uplink) (ls : List (List ℕ)) → texts_of hears.next_of hears.text_of (beside_of u []) ls ≡ answers_of u.state ls
+unfolding texts_of answers_of next_beside text_beside hears.next_of hears.text_of
+heard_lines u ls =
+    text_as (next_beside hears.next_of) (text_beside hears.text_of) next_of answer_of (λ (b : Beside Uplink). b.state.state) (λ b l. refl) (λ b l. refl) (beside_of u []) ls
 
 -- what a caller gets by the promises
-pub called : (cs : List (Call 4)) → calls_from start_of cs ≡ run_of (flat (pieces_of cs))
-unfolding run_of
-called cs =
-    called_alone hears.next_of hears.text_of 4 law.text_most law.short_next law.short_text 4 hears.cut_of cut_room heard_cut (record { state = reset_of }) cs
-    ∙ heard_all (record { state = reset_of }) (flat (pieces_of cs))
+pub called : (cs : List (Call 4)) (o : List ℕ) → 4 ≤ length o → calls_from start_of cs o ≡ run_of (flat (pieces_of cs))
+unfolding run_of whole_of
+called cs o room =
+    called_alone hears.next_of hears.text_of 4 law.text_most law.short_next law.short_text o room (record { state = reset_of }) cs
+    ∙ heard_lines (record { state = reset_of }) (lines_of (flat (pieces_of cs)))
+
+-- ---- the end: what is carried is a line, answered as any other
+pub finish_text : (r : Player Uplink) → last_written hears.next_of hears.text_of r ≡ answers_of r.hearer.state (lines_of (held_of r.finder))
+unfolding last_written carried_of
+finish_text r = heard_lines r.hearer (lines_of (held_of r.finder))
+
+-- and it is malformed, so it is `600`
+pub finish_cut : (r : Player Uplink) → last_written hears.next_of hears.text_of r ≡ (IF eqb (length (held_of r.finder)) 0 THEN [] ELSE hears.cut_of r.hearer)
+finish_cut r = player.last_is hears.next_of hears.text_of hears.cut_of heard_cut r

@@ -1,7 +1,7 @@
 // Runs a trace piece by piece: what is unfinished is carried by value.
 #![tactic(auto)]
 
-ghost use Rattle.std.specs.Prelude.{◌≡◌, length};
+ghost use Rattle.std.specs.Prelude.{◌≡◌};
 ghost use Rattle.detector.specs.Result.{answer_of};
 ghost use Rattle.runner.specs.Said as one;
 ghost use Rattle.runner.specs.Hears as line;
@@ -22,12 +22,8 @@ pub struct Uplink {
     pub state: State,
 }
 
-// A run between two pieces, what a piece is answered, and what the end of the input gives.
+// A run between two pieces.
 pub type Runner = Player<Uplink>;
-
-pub type Fed = player::Fed<Uplink>;
-
-pub type Last = player::Last<ANSWER>;
 
 // What a line is answered, and the state for the next one.
 #[derive(Clone, Copy)]
@@ -138,27 +134,7 @@ impl Hearer for Uplink {
 pub fn start() -> Runner
     ensures { result ≡ piece.start_of }
 {
-    player::start(Uplink {
+    Player::new(Uplink {
         state: State::reset(),
     })
-}
-
-// Feeds a piece of the input; `out` has four bytes for each byte of the piece.
-pub fn feed(r: Runner, input: &[u8], out: &mut [u8]) -> Fed
-    ensures value { result ≡ piece.fed_of r input.now (length out.old) }
-    ensures out_after { out.new ≡ piece.out_after r input.now out.old }
-{
-    player::feed(r, input, &[], out)
-}
-
-// The end of the input: what is carried is a line too, and malformed.
-pub fn finish(r: Runner) -> Last
-    ensures { result ≡ piece.finish_of r }
-{
-    let malformed = text(Reply {
-        refusal: 6,
-        vad: false,
-        vvad: false,
-    });
-    player::finish(r, malformed)
 }

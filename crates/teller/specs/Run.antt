@@ -40,6 +40,10 @@ next_of h block l = (told_of h block l).next
 unfoldable pub line_text : Hearing → List ℕ → List ℕ → List ℕ
 line_text h block l = text_of (told_of h block l).why
 
+-- a line that the end of the input cut has no line feed, so it is refused with 6, in ten bytes
+abbrev pub cut_of : Hearing → List ℕ
+cut_of h = text_of (Why.Refused 6)
+
 -- lines one after the other, with the samples that are left
 unfoldable pub hearing_of : Beside Hearing → List (List ℕ) → Beside Hearing
 hearing_of b ls = state_after (next_beside next_of) b ls

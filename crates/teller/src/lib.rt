@@ -19,9 +19,6 @@ use why::{Denied, Explained, Explainer, Flag, Why};
 // The most bytes that a line is told in: 4294967295 hangover 4294967295 waiting 8, and a line feed.
 const MOST: usize = 41;
 
-// The bytes of what a line is told that the end of the input cut.
-const CUT: usize = 10;
-
 // A run, and whether it is one on the downlink.
 #[derive(Clone, Copy)]
 pub struct Hearing {
@@ -29,12 +26,8 @@ pub struct Hearing {
     pub explainer: Explainer,
 }
 
-// A trace so far, what a piece is told, and what the end of the input gives.
+// A trace so far.
 pub type Teller = Player<Hearing>;
-
-pub type Fed = player::Fed<Hearing>;
-
-pub type Last = player::Last<CUT>;
 
 // Why a line's frame was sent or not, and the run after it.
 #[derive(Clone, Copy)]
@@ -232,23 +225,8 @@ impl Hearer for Hearing {
 pub fn start(downlink: bool) -> Teller
     ensures { result ≡ piece.start_of downlink }
 {
-    player::start(Hearing {
+    Player::new(Hearing {
         downlink,
         explainer: why::start(),
     })
-}
-
-// Feeds a piece of the trace and the samples of the lines that end in it; `out` has 41 bytes for each byte of the piece.
-pub fn feed(t: Teller, input: &[u8], samples: &[u8], out: &mut [u8]) -> Fed
-    ensures value { result ≡ piece.fed_of t input.now samples.now (length out.old) }
-    ensures out_after { out.new ≡ piece.out_after t input.now samples.now out.old }
-{
-    player::feed(t, input, samples, out)
-}
-
-// The end of the trace: what is carried has no line feed, and is refused with 6.
-pub fn finish(t: Teller) -> Last
-    ensures { result ≡ piece.finish_of t }
-{
-    player::finish(t, *b"refused 6\n")
 }

@@ -1,4 +1,4 @@
 pub mod Limit
 pub mod Reports
-pub mod Calls
 pub mod Heard
+pub mod Calls

@@ -71,7 +71,7 @@ impl Hearer for Tally {
 pub fn start() -> Night
     ensures { result ≡ piece.start_of }
 {
-    player::start(Tally {
+    Player::new(Tally {
         counted: Counted {
             refusal: 0,
             totals: Totals {
@@ -84,20 +84,6 @@ pub fn start() -> Night
         },
         state: State::reset(),
     })
-}
-
-// Feeds a piece of the trace.
-pub fn feed(n: Night, input: &[u8]) -> Night
-    ensures { result ≡ piece.fed_of n input.now }
-{
-    player::play(n, input, &[], &mut []).player
-}
-
-// The end of the trace: what is carried is a line too.
-pub fn finish(n: Night) -> Counted
-    ensures { result ≡ piece.finish_of n }
-{
-    player::ended(n).counted
 }
 
 // ---- the report

@@ -11,17 +11,19 @@ use files::{Failed, Input, Steps};
 use samples::FRAME_BYTES;
 use teller::Teller;
 
-// What is told so far and, on the downlink, the samples; and the room for those of a piece and for what it is told.
+// The most bytes of a piece.
+const PIECE: usize = 1024;
+
+// What is told so far and, on the downlink, the samples; and the room for those of a piece and for what it is told: no piece is refused.
 #[derive(Drop)]
 struct Telling {
     teller: Teller,
     sound: Option<Input>,
-    samples: [u8; 327680],
-    out: [u8; 41984],
+    samples: [u8; FRAME_BYTES * PIECE],
+    out: [u8; 41 * PIECE],
 }
 
 // Reads the samples of the lines that end in a piece; on the uplink there are none.
-#[tactic(auto, using(samples::proofs::Beside::feeds_most))]
 fn hear(
     rt: HostRuntime,
     sound: &mut Option<Input>,
@@ -41,34 +43,34 @@ fn hear(
     }
 }
 
-impl Steps<1024> for Telling {
+impl Steps<PIECE> for Telling {
     type Stop = Failed;
 
     // Reads the samples of a piece, feeds both, and writes what it is told. Samples that can't be read end it all: no line is told as if they were
     // missing.
-    #[tactic(auto, using(teller::proofs::Calls::wrote_fits))]
     fn step(&mut self, rt: HostRuntime, piece: &[u8]) -> Result<(), Failed> {
         let heard = hear(rt, &mut self.sound, piece, &mut self.samples)?;
-        let fed = teller::feed(self.teller, piece, &self.samples[..heard], &mut self.out);
-        self.teller = fed.player;
-        files::write(rt, &self.out[..fed.wrote])
+        let wrote = self
+            .teller
+            .feed(piece, &self.samples[..heard], &mut self.out)
+            .unwrap();
+        files::write(rt, &self.out[..wrote])
     }
 
     ghost fits_in_memory = { Prim.search rules };
 }
 
 // Tells of the whole trace, on the downlink where there is a sound. Where the trace can't be read on, what is carried is told as at its end.
-#[tactic(auto, using(teller::proofs::Calls::finish_fits))]
 fn tell_all(rt: HostRuntime, trace: &mut Input, sound: Option<Input>) -> Result<(), Failed> {
     let mut telling = Telling {
         teller: teller::start(sound.is_some()),
         sound,
-        samples: [0u8; 327680],
-        out: [0u8; 41984],
+        samples: [0u8; FRAME_BYTES * PIECE],
+        out: [0u8; 41 * PIECE],
     };
     telling.each(rt, trace)?;
-    let last = teller::finish(telling.teller);
-    files::write(rt, &last.text[..last.wrote])
+    let wrote = telling.teller.finish(&mut telling.out).unwrap();
+    files::write(rt, &telling.out[..wrote])
 }
 
 // Tells of a trace and its samples where both are named, and else of the trace that is named, or of standard input.

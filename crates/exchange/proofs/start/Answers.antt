@@ -4,4 +4,4 @@ use Rattle.exchange.proofs.start.Goals as goal
 
 pub returns : goal.returns
 unfolding all_reset
-returns c = rw (c.start.ensures, c.reset.ensures)
+returns c = rw (c.new.ensures, c.reset.ensures)

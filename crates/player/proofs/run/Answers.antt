@@ -1,6 +1,6 @@
 -- `player::run` plays line after line, each with the next samples. Assumes nothing.
 use borrow.Author.Rules.{rules}
-use mathlib.Core.Path.{◌≡◌, ap, ◌∙◌}
+use mathlib.Core.Path.{ap, ap₂, ◌∙◌}
 use Prim.Native.Nat.{ℕ, ◌≤◌}
 use native.Mathlib.Omega.{arith}
 use lib.ListN.{length}
@@ -12,18 +12,15 @@ use Rattle.player.proofs.Steps.{beside_most, frame_from, frame_in, turn, taken_i
 use Rattle.player.proofs.run.Goals as goal
 
 -- what the loop leaves, by its parts
-abbrev made : {H : Type 0} → H → ℕ → ℕ → Ran H
-made h used n = record { hearer = h; used = used; wrote = n }
-
-ran : {H : Type 0} (h k : H) (used u n m : ℕ) → h ≡ k → used ≡ u → n ≡ m → made h used n ≡ made k u m
-ran h k used u n m e f g = rw (e, f, g)
+abbrev made : ℕ → ℕ → Ran
+made used n = record { used = used; wrote = n }
 
 pub loop-i-init : goal.loop-i-init
 loop-i-init g c =
     let h = g.H.Hearer in
     let a = c.args in
     let m = beside_most h.next h.text h.MOST g.met.H.Hearer.most in
-    (runs_start (next_beside h.next) (text_beside h.text) h.MOST m a.input.now (beside_of a.h a.samples.now) a.at a.out.now (search rules), omega arith)
+    (runs_start (next_beside h.next) (text_beside h.text) h.MOST m a.input.now (beside_of a.hearer.now a.samples.now) a.at a.out.now (search rules), omega arith)
 
 pub slice_bounds-hear-count : goal.slice_bounds-hear-count
 slice_bounds-hear-count g c = frame_from c.args.samples.now _ _ c.loop-i.invariant.1 c.frame_end-end.ensures
@@ -67,7 +64,14 @@ returns-clause-value g c =
     let s = runs_state (next_beside h.next) (text_beside h.text) h.MOST m w.invariant.0 o in
     let n = runs_count (next_beside h.next) (text_beside h.text) h.MOST m w.invariant.0 o in
     let u = taken_is a.samples.now w.used w.invariant.1 ∙ ap (λ (x : Beside _). taken_of a.samples.now x.left) s in
-    ran _ _ _ _ _ _ (ap (λ (x : Beside _). x.state) s) u n
+    ap₂ made u n
+
+pub returns-clause-hearer_after : goal.returns-clause-hearer_after
+unfolding heard_of
+returns-clause-hearer_after g c =
+    let h = g.H.Hearer in
+    let m = beside_most h.next h.text h.MOST g.met.H.Hearer.most in
+    ap (λ (x : Beside _). x.state) (runs_state (next_beside h.next) (text_beside h.text) h.MOST m c.loop-i.invariant.0 (omega arith))
 
 pub returns-clause-out_after : goal.returns-clause-out_after
 unfolding texts_of

@@ -6,4 +6,4 @@ use Rattle.totals.proofs.start.Goals as goal
 
 pub returns : goal.returns
 unfolding how_many totals_of start_of player.start_of
-returns c = rw (c.start.ensures, c.reset.ensures)
+returns c = rw (c.new.ensures, c.reset.ensures)
