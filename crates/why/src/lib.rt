@@ -38,7 +38,7 @@ pub struct Reasons {
     pub threshold: Way,
 }
 
-// A refused frame is explained by its number only: a line's refusal, as it is read, comes as a number.
+// A refused frame is explained by its number only: the theorem `asked` names these two cases.
 #[derive(Clone, Copy)]
 pub enum Why {
     Refused(u8),
