@@ -1,5 +1,5 @@
 -- There is room for the answer to what is carried at the end. Assumes nothing of its own.
-use Rattle.std.proofs.Common.{◌≡◌, ◌≤◌, length, rules, arith}
+use Rattle.std.proofs.Common.{◌≡◌, length, rules, arith}
 use Rattle.teller.proofs.Calls.{finish_fits}
 use Rattle.why_trace.proofs.tell_all.Goals as goal
 

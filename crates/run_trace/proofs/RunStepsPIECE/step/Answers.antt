@@ -1,5 +1,5 @@
 -- There is room for a piece, and what is written of it is within the room. Assumes nothing of its own.
-use Rattle.std.proofs.Common.{◌≡◌, ◌*◌, ◌≤◌, length, rules, arith}
+use Rattle.std.proofs.Common.{◌≡◌, length, rules, arith}
 use Rattle.runner.proofs.Calls.{fed_fits}
 use Rattle.run_trace.proofs.RunStepsPIECE.step.Goals as goal
 

@@ -1,5 +1,5 @@
 -- There is room for what a piece is told, and what is written of it is within the room. Assumes nothing of its own.
-use Rattle.std.proofs.Common.{◌≡◌, ◌*◌, ◌≤◌, length, rules, arith}
+use Rattle.std.proofs.Common.{◌≡◌, length, rules, arith}
 use Rattle.teller.proofs.Calls.{fed_fits}
 use Rattle.why_trace.proofs.TellingStepsPIECE.step.Goals as goal
 
