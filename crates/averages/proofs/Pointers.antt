@@ -4,17 +4,13 @@ use mathlib.Core.Path.{◌≡◌}
 use mathlib.Core.List.{List}
 use Prim.Native.Nat.{ℕ, ◌+◌, ◌%◌, ◌≤◌}
 use native.Mathlib.Omega.{arith}
-use lib.Dec.{leb, eqb}
-use borrow.Author.Tests.{leb-true, le-leb, eqb-false}
+use lib.Dec.{eqb}
+use borrow.Author.Tests.{le-leb, eqb-false}
 use lib.IntN.{ℤ}
 use Rattle.rows.specs.Rows.{row}
 use Rattle.rows.proofs.Choice.{by_yes, by_test}
 use Rattle.averages.specs.declared.Averages.{Averages}
 use Rattle.averages.specs.Averages.{LAST_SACF, LAST_SAV0, inside, l_temp_of, l_av0_of, stored_of, l_av1_of, next_of, average_of}
-
-pub inside_le : (last pt : ℕ) → inside last pt ≤ last
-unfolding inside
-inside_le last pt = by_test (λ (n : ℕ). n ≤ last) (leb pt last) pt 0 (leb-true pt last) (λ t. omega arith)
 
 pub inside_is : (last pt : ℕ) → pt ≤ last → inside last pt ≡ pt
 unfolding inside

@@ -40,13 +40,13 @@ module _ (h f : List ℤ) (i : ℕ) (q : Four h f i) where
   abbrev three : ℤ
   three = at h (i + 9) +ℤ two
 
-  pub two_fits : SFits w32 (at h i +ℤ at f i)
+  two_fits : SFits w32 (at h i +ℤ at f i)
   two_fits = omega (zarith, q.first, q.new, plus (at h i) (at f i))
 
-  pub three_fits : SFits w32 (at h (i + 9) +ℤ (at h i +ℤ at f i))
+  three_fits : SFits w32 (at h (i + 9) +ℤ (at h i +ℤ at f i))
   three_fits = omega (zarith, q.first, q.second, q.new, plus (at h i) (at f i), plus (at h (i + 9)) two)
 
-  pub four_fits : SFits w32 (at h (i + 18) +ℤ (at h (i + 9) +ℤ (at h i +ℤ at f i)))
+  four_fits : SFits w32 (at h (i + 18) +ℤ (at h (i + 9) +ℤ (at h i +ℤ at f i)))
   four_fits = omega (zarith, q.first, q.second, q.third, q.new, plus (at h i) (at f i), plus (at h (i + 9)) two, plus (at h (i + 18)) three)
 
   -- none of the three sums is clipped

@@ -1,7 +1,7 @@
 // Clause 6.2: the average over four frames, the one of four frames before, and the two histories that they come from.
 #![tactic(auto)]
 
-ghost use Rattle.std.specs.Prelude.{true, ◌≡◌, ◌≤◌};
+ghost use Rattle.std.specs.Prelude.{true, ◌≡◌, ◌≤◌, ◌+◌, length};
 ghost use Rattle.rows.specs.Rows.{row, all};
 ghost use Rattle.averages.specs.Averages as clause;
 ghost use Rattle.averages.specs.Quarters.{quarter};
@@ -9,6 +9,7 @@ ghost use Rattle.averages.specs.Quarters.{quarter};
 use operations::{l_add, l_shr, shl, sub};
 use rows::all_within;
 
+// The pointers of the last frame of each history.
 const LAST_SACF: usize = 18;
 
 const LAST_SAV0: usize = 27;
@@ -26,12 +27,10 @@ pub struct Averages {
 
 // A pointer, or 0 for one past the last frame.
 fn inside(last: usize, pt: usize) -> usize
-    ensures { result ≡ clause.inside last pt }
+    ensures value { result ≡ clause.inside last pt }
+    ensures bound { result ≤ last }
 {
-    if pt <= last {
-        return pt;
-    }
-    0
+    if pt <= last { pt } else { 0 }
 }
 
 // The pointer of the next frame.
@@ -39,10 +38,7 @@ fn next(last: usize, pt: usize) -> usize
     requires { pt ≤ clause.LAST_SAV0 }
     ensures { result ≡ clause.next_of last pt }
 {
-    if pt == last {
-        return 0;
-    }
-    pt + 9
+    if pt == last { 0 } else { pt + 9 }
 }
 
 // The frame, scaled.
@@ -50,19 +46,7 @@ fn scaled(acf: [i32; 9], scalvad: i16) -> [i32; 9]
     ensures { result ≡ row 9 (clause.l_temp_of acf scalvad) }
 {
     let scal = sub(10, shl(scalvad, 1));
-    let mut out = [0i32; 9];
-    for i in 0..9 {
-        out[i] = l_shr(acf[i], scal);
-    }
-    out
-}
-
-// One entry of the sum over four frames.
-fn av0_at(sacf: [i32; 27], frame: [i32; 9], i: usize) -> i32
-    requires { i ≤ 8 }
-    ensures { result ≡ clause.l_av0_of sacf frame i }
-{
-    l_add(sacf[i + 18], l_add(sacf[i + 9], l_add(sacf[i], frame[i])))
+    acf.map(|x| l_shr(x, scal))
 }
 
 // Whether each number of a row is a quarter.
@@ -72,82 +56,55 @@ fn of_quarters(a: &[i32]) -> bool
     all_within(-536870912, 536870911, a)
 }
 
-// The sum over four frames of quarters, which needs no clip.
-fn plain_av0(sacf: [i32; 27], frame: [i32; 9]) -> [i32; 9]
-    requires { (all quarter sacf ≡ true) × (all quarter frame ≡ true) }
-    ensures { result ≡ row 9 (clause.l_av0_of sacf frame) }
+// One entry of the sum over four frames of quarters, which needs no clip.
+fn plain_at(sacf: [i32; 27], frame: [i32; 9], i: usize) -> i32
+    requires { (i ≤ 8) × (all quarter sacf ≡ true) × (all quarter frame ≡ true) }
+    ensures { result ≡ clause.l_av0_of sacf frame i }
 {
-    let mut out = [0i32; 9];
-    for i in 0..9 {
-        out[i] = sacf[i + 18] + (sacf[i + 9] + (sacf[i] + frame[i]));
-    }
-    out
+    sacf[i + 18] + (sacf[i + 9] + (sacf[i] + frame[i]))
 }
 
-// The sum over any four frames, clipped at each step.
-fn clipped_av0(sacf: [i32; 27], frame: [i32; 9]) -> [i32; 9]
-    ensures { result ≡ row 9 (clause.l_av0_of sacf frame) }
+// One entry of the sum over any four frames, clipped at each step.
+fn clipped_at(sacf: [i32; 27], frame: [i32; 9], i: usize) -> i32
+    requires { i ≤ 8 }
+    ensures { result ≡ clause.l_av0_of sacf frame i }
 {
-    let mut out = [0i32; 9];
-    for i in 0..9 {
-        out[i] = av0_at(sacf, frame, i);
-    }
-    out
+    l_add(sacf[i + 18], l_add(sacf[i + 9], l_add(sacf[i], frame[i])))
 }
 
 // The sum over four frames. For speed, one test says whether all are quarters, as in a valid state.
 fn av0(sacf: [i32; 27], frame: [i32; 9]) -> [i32; 9]
     ensures { result ≡ row 9 (clause.l_av0_of sacf frame) }
 {
-    if of_quarters(&sacf[0..27]) & of_quarters(&frame[0..9]) {
-        return plain_av0(sacf, frame);
+    if of_quarters(&sacf) & of_quarters(&frame) {
+        return std::array::from_fn(|i| plain_at(sacf, frame, i));
     }
-    clipped_av0(sacf, frame)
+    std::array::from_fn(|i| clipped_at(sacf, frame, i))
 }
 
 // The sum of four frames before.
-fn av1(sav0: [i32; 36], pt: usize) -> [i32; 9]
+fn av1(sav0: &[i32; 36], pt: usize) -> [i32; 9]
     requires { pt ≤ clause.LAST_SAV0 }
-    ensures { result ≡ row 9 (clause.l_av1_of sav0 pt) }
+    ensures { result ≡ row 9 (clause.l_av1_of sav0.now pt) }
 {
-    let mut out = [0i32; 9];
-    for i in 0..9 {
-        out[i] = sav0[pt + i];
-    }
-    out
+    std::array::from_fn(|i| sav0[pt + i])
 }
 
-// The frame in place of the oldest of three.
-fn stored27(history: [i32; 27], pt: usize, frame: [i32; 9]) -> [i32; 27]
-    requires { pt ≤ clause.LAST_SACF }
-    ensures { result ≡ clause.stored_of history pt frame }
+// The frame in place of the oldest of a history.
+fn store(history: &mut [i32], pt: usize, frame: [i32; 9])
+    requires { pt + 9 ≤ length history.old }
+    ensures { history.new ≡ clause.stored_of history.old pt frame }
 {
-    let mut out = history;
-    for i in 0..9 {
-        out[pt + i] = frame[i];
-    }
-    out
-}
-
-// The average in place of the oldest of four.
-fn stored36(history: [i32; 36], pt: usize, frame: [i32; 9]) -> [i32; 36]
-    requires { pt ≤ clause.LAST_SAV0 }
-    ensures { result ≡ clause.stored_of history pt frame }
-{
-    let mut out = history;
-    for i in 0..9 {
-        out[pt + i] = frame[i];
-    }
-    out
+    history[pt..pt + 9].copy_from_slice(&frame);
 }
 
 // The two averages of a frame, and the histories with their pointers after it.
 pub fn average(
     acf: [i32; 9],
     scalvad: i16,
-    sacf: [i32; 27],
+    mut sacf: [i32; 27],
     ptsacf: usize,
-    sav0: [i32; 36],
+    mut sav0: [i32; 36],
     ptsav0: usize,
 ) -> Averages
     ensures { result ≡ clause.average_of acf scalvad sacf ptsacf sav0 ptsav0 }
@@ -156,15 +113,15 @@ pub fn average(
     let q = inside(LAST_SAV0, ptsav0);
     let frame = scaled(acf, scalvad);
     let new = av0(sacf, frame);
-    let old = av1(sav0, q);
-    let frames = stored27(sacf, p, frame);
-    let sums = stored36(sav0, q, new);
+    let old = av1(&sav0, q);
+    store(&mut sacf, p, frame);
+    store(&mut sav0, q, new);
     Averages {
         av0: new,
         av1: old,
-        sacf: frames,
+        sacf,
         ptsacf: next(LAST_SACF, p),
-        sav0: sums,
+        sav0,
         ptsav0: next(LAST_SAV0, q),
     }
 }

@@ -18,7 +18,7 @@ use Rattle.state.specs.Valid.{valid_of, reset_of}
 use Rattle.detector.specs.Refusal.{refusal_of}
 use Rattle.detector.specs.Run.{answer_to, state_from}
 use Rattle.detector.proofs.Table.{refused_answer, accepted_number}
-use Rattle.card.specs.declared.Called.{Called}
+use Rattle.card.specs.Called.{Called}
 use Rattle.card.specs.Card.{Order, call, reset, channel_of, in_bank, state_at, called_of, number_only, next_for, said_for, answer_of, bank_after}
 use Rattle.card.specs.History.{all_reset, bank_from, heard}
 use Rattle.card.specs.Asked.{OneOrder, TwoOrders, OnChannel, Asked}

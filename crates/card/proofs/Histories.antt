@@ -16,7 +16,7 @@ use Rattle.state.specs.declared.State.{State}
 use Rattle.state.specs.Valid.{reset_of}
 use Rattle.detector.specs.Run.{answer_to, state_from}
 use Rattle.detector.proofs.Run.{as_given}
-use Rattle.card.specs.declared.Called.{Called}
+use Rattle.card.specs.Called.{Called}
 use Rattle.card.specs.Card.{Order, call, reset, channel_of, in_bank, state_at, called_of, number_only, next_for, said_for, answer_of, bank_after}
 use Rattle.card.specs.History.{all_reset, bank_from, heard_from, heard, orders_on}
 use Rattle.card.proofs.Orders.{answer_in, bank_in, bank_out}

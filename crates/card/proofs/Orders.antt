@@ -8,9 +8,10 @@ use Rattle.rows.proofs.Choice.{by_yes, by_no}
 use Rattle.frames.specs.Frame.{Frame}
 use Rattle.state.specs.declared.State.{State}
 use Rattle.state.specs.Valid.{reset_of}
-use Rattle.card.specs.Card.{Order, call, reset, channel_of, in_bank, state_at, number_only, next_for, said_for, answer_of, bank_after, stepped_of}
+use Rattle.detector.specs.Run.{answer_to}
+use Rattle.card.specs.Card.{Order, call, reset, channel_of, in_bank, state_at, number_only, next_for, said_for, called_of, answer_of, bank_after}
+
 -- looked at first: a definition that is wrong is refused by an instance that comes out otherwise
-use Rattle.card.specs.Instances.{ends}
 
 module _ (bank : List State) (o : Order) where
   pub answer_in : in_bank (length bank) (channel_of o) ≡ true → answer_of bank o ≡ said_for o (state_at bank (channel_of o))
@@ -31,12 +32,12 @@ module _ (bank : List State) (o : Order) where
 
 -- ---- a call, by the step of its state
 module _ (bank : List State) (i : ℕ) (f : Frame) where
-  pub call_answer : in_bank (length bank) i ≡ true → answer_of bank (call i f) ≡ (stepped_of (get_or bank i reset_of) f).called
-  unfolding channel_of said_for state_at stepped_of
+  pub call_answer : in_bank (length bank) i ≡ true → answer_of bank (call i f) ≡ called_of (answer_to (get_or bank i reset_of) f)
+  unfolding channel_of said_for state_at
   call_answer t = answer_in bank (call i f) t
 
-  pub call_bank : in_bank (length bank) i ≡ true → bank_after bank (call i f) ≡ set bank i (stepped_of (get_or bank i reset_of) f).next
-  unfolding channel_of next_for state_at stepped_of
+  pub call_bank : in_bank (length bank) i ≡ true → bank_after bank (call i f) ≡ set bank i (answer_to (get_or bank i reset_of) f).next
+  unfolding channel_of next_for state_at
   call_bank t = bank_in bank (call i f) t
 
   pub call_out : in_bank (length bank) i ≡ false → (answer_of bank (call i f) ≡ number_only 9) × (bank_after bank (call i f) ≡ bank)

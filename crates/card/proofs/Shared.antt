@@ -10,8 +10,8 @@ use mir.Facts.{and_yes}
 use prog.Memory.{size}
 use Rattle.state.proofs.State.TheLaws as T'
 use Rattle.card.specs.Card.{in_bank}
+
 -- looked at first: a definition that is wrong is refused by an instance that comes out otherwise
-use Rattle.card.specs.Instances.{ends}
 
 -- how many bytes a state takes
 abbrev pub bytes : ℕ

@@ -4,13 +4,12 @@
 use Rattle.std.specs.Prelude.{Bool, false, ◌&&◌, List, ℕ, leb, ltb, ℤ, pos, length, get_or, set}
 use Rattle.rows.specs.Choice.{IF◌THEN◌ELSE◌}
 use Rattle.pairs.specs.Pairs.{pair}
-use Rattle.frames.specs.Frame.{Frame, direction_of}
+use Rattle.frames.specs.Frame.{Direction, Frame}
 use Rattle.state.specs.declared.State.{State}
 use Rattle.state.specs.Valid.{reset_of}
-use Rattle.detector.specs.declared.Answer.{Answer}
+use Rattle.detector.specs.Answer.{Answer}
 use Rattle.detector.specs.Run.{answer_to}
-use Rattle.card.specs.declared.Called.{Called}
-use Rattle.card.specs.declared.Stepped.{Stepped}
+use Rattle.card.specs.Called.{Called}
 
 pub data Order : Type 0 where
   call : ℕ → Frame → Order
@@ -53,9 +52,6 @@ answer_of bank o = IF in_bank (length bank) (channel_of o) THEN said_for o (stat
 unfoldable pub bank_after : List State → Order → List State
 bank_after bank o = IF in_bank (length bank) (channel_of o) THEN set bank (channel_of o) (next_for o (state_at bank (channel_of o))) ELSE bank
 
--- ---- the parameters of a call as a frame; and its step by value
-unfoldable pub frame_of : Bool → List ℤ → List ℕ → ℤ → List ℤ → Frame
-frame_of downlink l_acf lags scalvad sof = record { direction = direction_of downlink sof; l_acf = l_acf; lags = lags; scalvad = scalvad }
-
-unfoldable pub stepped_of : State → Frame → Stepped
-stepped_of s f = record { next = (answer_to s f).next; called = called_of (answer_to s f) }
+-- ---- the parameters of a call as a frame
+unfoldable pub frame_of : Direction → List ℤ → List ℕ → ℤ → Frame
+frame_of d l_acf lags scalvad = record { direction = d; l_acf = l_acf; lags = lags; scalvad = scalvad }

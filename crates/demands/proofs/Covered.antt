@@ -55,7 +55,7 @@ use Rattle.state.specs.declared.State.{State}
 use Rattle.state.specs.Valid.{pointer_ok, sacf_within, sacf_ok, sav0_ok, weight_of, rvad_ok, thvad_ok, counts_ok, valid_of, Between, Shaped, reset_of}
 use Rattle.detector.specs.Refusal.{refusal_of}
 use Rattle.detector.proofs.Keeps.{Numbers, accepted, kind, filter_ok, incoming, frames_was, frames_at_was, sums_was, sums_at_was}
-use Rattle.detector.specs.declared.Answer.{Answer}
+use Rattle.detector.specs.Answer.{Answer}
 use Rattle.detector.specs.Step.{answer_for}
 use Rattle.demands.specs.Demands.{NeverMet}
 use Rattle.demands.specs.Worked.{acf, forty}

@@ -26,7 +26,7 @@ use Rattle.lags.specs.Lags.{lag_ok, smallag_of, counted_of, once_of, lagcount_of
 use Rattle.frames.specs.Frame.{up, lengths_ok, samples_ok, scale_ok, acf_ok, lags_ok, frame_refusal_of}
 use Rattle.state.specs.declared.State.{State}
 use Rattle.state.specs.Valid.{pointer_ok, sacf_within, sacf_ok, sav0_ok, weight_of, rvad_ok, thvad_ok, counts_ok, valid_of, reset_of}
-use Rattle.detector.specs.declared.Answer.{Answer}
+use Rattle.detector.specs.Answer.{Answer}
 use Rattle.detector.specs.Refusal.{refusal_of}
 use Rattle.detector.specs.Step.{spectral_of, accepted_of, refused_of, tone_read, tone_kept, answer_for, step_of}
 use Rattle.detector.proofs.Keeps.{Numbers, zeros_fit}

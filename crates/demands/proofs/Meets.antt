@@ -14,7 +14,7 @@ use Rattle.frames.specs.Frame.{Direction, samples_ok}
 use Rattle.state.specs.declared.State.{State}
 use Rattle.state.specs.Valid.{valid_of, Shaped, reset_of}
 use Rattle.state.proofs.Facts.{reset_valid, reset_shaped}
-use Rattle.detector.specs.declared.Answer.{Answer}
+use Rattle.detector.specs.Answer.{Answer}
 use Rattle.detector.specs.Refusal.{refusal_of}
 use Rattle.detector.specs.Step.{answer_for}
 use Rattle.detector.proofs.Table.{number_0, number_1, number_2, number_3, number_4, number_5, number_8, step_accepted, refused_answer, accepted_number}

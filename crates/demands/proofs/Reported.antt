@@ -22,7 +22,7 @@ use Rattle.frames.specs.Frame.{Direction, samples_ok}
 use Rattle.state.specs.declared.State.{State}
 use Rattle.state.specs.Valid.{Shaped, Valid}
 use Rattle.state.proofs.Facts.{valid}
-use Rattle.detector.specs.declared.Answer.{Answer}
+use Rattle.detector.specs.Answer.{Answer}
 use Rattle.detector.specs.Refusal.{refusal_of}
 use Rattle.detector.specs.Step.{accepted_of, tone_read, tone_kept, answer_for}
 use Rattle.detector.proofs.Table.{number_0, step_accepted}

@@ -15,7 +15,7 @@ use Rattle.energy.specs.Exact.{exact_of}
 use Rattle.frames.specs.Frame.{Direction, lengths_ok, samples_ok, scale_ok, acf_ok, lags_ok}
 use Rattle.state.specs.declared.State.{State}
 use Rattle.state.specs.Valid.{valid_of, Shaped}
-use Rattle.detector.specs.declared.Answer.{Answer}
+use Rattle.detector.specs.Answer.{Answer}
 use Rattle.detector.specs.Step.{accepted_of, tone_read, tone_kept}
 use Rattle.lines.specs.declared.Frame.{Frame}
 use Rattle.lines.specs.Line.{frame_of, formed_of}

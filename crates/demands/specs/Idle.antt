@@ -5,7 +5,7 @@ use Rattle.std.specs.Prelude.{◌≡◌, Bool, true, false, List, ℕ, ℤ, pos}
 use Rattle.threshold.specs.Threshold.{PLEV}
 use Rattle.state.specs.declared.State.{State}
 use Rattle.state.specs.Valid.{reset_of}
-use Rattle.detector.specs.declared.Answer.{Answer}
+use Rattle.detector.specs.Answer.{Answer}
 use Rattle.detector.specs.Step.{step_of}
 use Rattle.demands.specs.Demands.{Demand3}
 use Rattle.demands.specs.Worked.{acf, forty}

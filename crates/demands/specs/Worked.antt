@@ -17,7 +17,7 @@ use Rattle.hangover.specs.Hangover.{burst_of, run_down_of, started_of, hangover_
 use Rattle.lags.specs.Lags.{lag_ok}
 use Rattle.frames.specs.Frame.{lengths_ok, samples_ok, scale_ok, acf_ok, lags_ok, frame_refusal_of}
 use Rattle.state.specs.Valid.{pointer_ok, sacf_within, sacf_ok, sav0_ok, weight_of, rvad_ok, thvad_ok, counts_ok, valid_of, reset_of}
-use Rattle.detector.specs.declared.Answer.{Answer}
+use Rattle.detector.specs.Answer.{Answer}
 use Rattle.detector.specs.Refusal.{refusal_of}
 use Rattle.detector.specs.Step.{accepted_of, tone_read, tone_kept, answer_for, step_of}
 use Rattle.demands.specs.Distance.{e_of, energy_units}

@@ -18,7 +18,7 @@ use Rattle.threshold.specs.declared.Kept.{Kept}
 use Rattle.frames.specs.Frame.{Direction, up, down, samples_ok}
 use Rattle.state.specs.declared.State.{State}
 use Rattle.state.specs.Valid.{counts_ok, valid_of}
-use Rattle.detector.specs.declared.Answer.{Answer}
+use Rattle.detector.specs.Answer.{Answer}
 use Rattle.detector.specs.Refusal.{refusal_of}
 use Rattle.detector.specs.Step.{spectral_of, accepted_of, refused_of, tone_read, tone_kept, answer_for, step_of}
 use Rattle.detector.specs.Run.{answer_to}

@@ -27,7 +27,7 @@ use Rattle.predictor.proofs.Autocorrelation.{work_exact}
 use Rattle.frames.specs.Frame.{Direction, samples_ok}
 use Rattle.state.specs.declared.State.{State}
 use Rattle.state.specs.Valid.{Shaped}
-use Rattle.detector.specs.declared.Answer.{Answer}
+use Rattle.detector.specs.Answer.{Answer}
 use Rattle.detector.specs.Refusal.{refusal_of}
 use Rattle.detector.specs.Step.{accepted_of, tone_read, tone_kept, answer_for}
 use Rattle.detector.proofs.Table.{step_accepted}

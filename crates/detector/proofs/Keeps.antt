@@ -40,7 +40,7 @@ use Rattle.state.specs.declared.State.{State}
 use Rattle.state.specs.Valid.{valid_of, weight_of, Between, Valid, Shaped}
 use Rattle.state.proofs.Facts.{valid, valid_back, between, le_fact}
 use Rattle.detector.specs.declared.Middle.{Middle}
-use Rattle.detector.specs.declared.Answer.{Answer}
+use Rattle.detector.specs.Answer.{Answer}
 use Rattle.detector.specs.Refusal.{refusal_of}
 use Rattle.detector.specs.Step.{spectral_of, accepted_of, tone_read, tone_kept, answer_for}
 use Rattle.detector.proofs.Table.{number_0, step_accepted, refused_answer}

@@ -1,3 +1,4 @@
+pub mod Result
 pub mod Table
 pub mod Keeps
 pub mod Frames

@@ -17,7 +17,7 @@ use Rattle.hangover.proofs.Bursts.{hung_at, flag_at, with_is, more_hung}
 use Rattle.frames.specs.Frame.{Frame}
 use Rattle.state.specs.declared.State.{State}
 use Rattle.state.specs.Valid.{reset_of}
-use Rattle.detector.specs.declared.Answer.{Answer}
+use Rattle.detector.specs.Answer.{Answer}
 use Rattle.detector.specs.Step.{accepted_of}
 use Rattle.detector.specs.Run.{answer_to, state_from, accepted_from, flags_of, raws_of}
 use Rattle.detector.proofs.Table.{accepted_0, accepted_number, step_accepted, refused_answer}

@@ -14,7 +14,7 @@ use Rattle.hangover.proofs.Sentence.{spoken}
 use Rattle.frames.specs.Frame.{Frame}
 use Rattle.state.specs.declared.State.{State}
 use Rattle.state.specs.Valid.{reset_of}
-use Rattle.detector.specs.declared.Answer.{Answer}
+use Rattle.detector.specs.Answer.{Answer}
 use Rattle.detector.specs.Run.{answer_to, flags_of, raws_of}
 use Rattle.detector.specs.Sentence.{accepted, vad, vvad, HangoverSentence}
 use Rattle.detector.proofs.Run.{step_hangs, Counted, counted_start, flag_more, counted_more, raws_length, flags_length, raws_more, flags_more, kept}

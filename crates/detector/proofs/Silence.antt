@@ -44,7 +44,7 @@ use Rattle.hangover.specs.Hangover.{hangover_of}
 use Rattle.hangover.proofs.Kept.{quiet_flag}
 use Rattle.frames.specs.Frame.{Direction, Frame, samples_ok}
 use Rattle.state.specs.declared.State.{State}
-use Rattle.detector.specs.declared.Answer.{Answer}
+use Rattle.detector.specs.Answer.{Answer}
 use Rattle.detector.specs.Refusal.{refusal_of}
 use Rattle.detector.specs.Step.{spectral_of, accepted_of, tone_read, tone_kept, answer_for}
 use Rattle.detector.specs.Run.{answer_to, state_from}

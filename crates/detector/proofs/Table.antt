@@ -16,7 +16,7 @@ use Rattle.frames.proofs.Frame.{frame_digit}
 use Rattle.frames.specs.Frame.{Direction, lengths_ok, samples_ok, scale_ok, acf_ok, lags_ok, frame_refusal_of}
 use Rattle.state.specs.declared.State.{State}
 use Rattle.state.specs.Valid.{valid_of}
-use Rattle.detector.specs.declared.Answer.{Answer}
+use Rattle.detector.specs.Answer.{Answer}
 use Rattle.detector.specs.Refusal.{refusal_of}
 use Rattle.detector.specs.Step.{accepted_of, refused_of, tone_read, tone_kept, answer_for}
 

@@ -5,7 +5,7 @@ use Rattle.tone.specs.Tone.{tone_of}
 use Rattle.threshold.specs.Threshold.{PLEV}
 use Rattle.frames.specs.Frame.{up, Frame, samples_ok}
 use Rattle.state.specs.declared.State.{State}
-use Rattle.detector.specs.declared.Answer.{Answer}
+use Rattle.detector.specs.Answer.{Answer}
 use Rattle.detector.specs.Step.{tone_kept, step_of, downlink_of}
 use Rattle.detector.specs.Run.{answer_to}
 

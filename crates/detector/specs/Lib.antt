@@ -1,5 +1,7 @@
+pub mod Answer
 pub mod Refusal
 pub mod Step
+pub mod Result
 pub mod Run
 pub mod Directions
 pub mod Sentence

@@ -6,7 +6,7 @@ use Rattle.hangover.specs.Bursts.{by_place}
 use Rattle.hangover.specs.Sentence.{Sentence}
 use Rattle.frames.specs.Frame.{Frame}
 use Rattle.state.specs.Valid.{reset_of}
-use Rattle.detector.specs.declared.Answer.{Answer}
+use Rattle.detector.specs.Answer.{Answer}
 use Rattle.detector.specs.Run.{accepted_from, flags_of, raws_of}
 
 -- the answers of `step` to the accepted ones of some frames: to all of them, if each is accepted

@@ -18,7 +18,7 @@ use Rattle.frames.specs.Frame.{Direction, Frame, samples_ok}
 use Rattle.state.specs.declared.State.{State}
 use Rattle.state.specs.Valid.{Shaped}
 use Rattle.detector.specs.declared.Middle.{Middle}
-use Rattle.detector.specs.declared.Answer.{Answer}
+use Rattle.detector.specs.Answer.{Answer}
 use Rattle.detector.specs.Refusal.{refusal_of}
 use Rattle.detector.specs.Step.{answered_of, tone_read, tone_kept, answer_for}
 use Rattle.detector.specs.Run.{answer_to, state_from}

@@ -15,7 +15,7 @@ use Rattle.tone.specs.Tone.{tone_of}
 use Rattle.frames.specs.Frame.{Direction, up, down, samples_ok}
 use Rattle.state.specs.declared.State.{State}
 use Rattle.detector.specs.declared.Middle.{Middle}
-use Rattle.detector.specs.declared.Answer.{Answer}
+use Rattle.detector.specs.Answer.{Answer}
 use Rattle.detector.specs.Refusal.{refusal_of}
 
 -- 6.2, 6.3 and 6.4, which run for every accepted frame: the exit of 6.1 at an all-zero frame goes on with them

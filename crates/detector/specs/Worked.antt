@@ -23,7 +23,7 @@ use Rattle.hangover.specs.Sentence.{bits}
 use Rattle.lags.specs.Lags.{lag_ok, ptch_of, smallag_of, counted_of, once_of, lagcount_of}
 use Rattle.frames.specs.Frame.{up, Frame, lengths_ok, samples_ok, scale_ok, acf_ok, lags_ok, frame_refusal_of}
 use Rattle.state.specs.Valid.{pointer_ok, sacf_within, sacf_ok, sav0_ok, weight_of, rvad_ok, thvad_ok, counts_ok, valid_of, reset_of}
-use Rattle.detector.specs.declared.Answer.{Answer}
+use Rattle.detector.specs.Answer.{Answer}
 use Rattle.detector.specs.Refusal.{refusal_of}
 use Rattle.detector.specs.Step.{spectral_of, accepted_of, refused_of, tone_read, tone_kept, answer_for}
 use Rattle.detector.specs.Run.{answer_to, state_from, accepted_from, flags_of, raws_of}

@@ -17,6 +17,9 @@ pub struct Energies {
     pub pvad: Pair,
 }
 
+// The energy of an all-zero frame, below all others.
+const SILENT: Pair = Pair { e: -32768, m: 0 };
+
 // One autocorrelation in 13 bits.
 fn scaled(x: i32, normacf: i16) -> i16
     ensures { result ≡ op.◌>>◌ (op.◌<<◌ x normacf) (pos 19) }
@@ -29,11 +32,7 @@ fn sacf(acf: [i32; 9]) -> [i16; 9]
     ensures { result ≡ row 9 (clause.sacf_of acf) }
 {
     let normacf = norm(acf[0]);
-    let mut out = [0i16; 9];
-    for i in 0..9 {
-        out[i] = scaled(acf[i], normacf);
-    }
-    out
+    acf.map(|x| scaled(x, normacf))
 }
 
 // The filter sum.
@@ -42,17 +41,14 @@ fn filter_sum(acf: [i32; 9], rvad: [i16; 9]) -> i32
 {
     let s = sacf(acf);
     let first = l_shr(l_mult(s[0], rvad[0]), 1);
-    l_add(products(&rvad[1..9], &s[1..9]), first)
+    l_add(products(&rvad[1..], &s[1..]), first)
 }
 
 // 1 for a number that is not positive.
 fn positive(x: i32) -> i32
     ensures { result ≡ clause.positive x }
 {
-    if x <= 0 {
-        return 1;
-    }
-    x
+    x.max(1)
 }
 
 // The energy of a frame that is not all zero.
@@ -77,21 +73,20 @@ fn pvad(e: i16, normrvad: i16, sum: i32) -> Pair
     }
 }
 
-// The two energies of a frame; those of an all-zero frame are below all others.
+// The two energies of a frame.
 pub fn energy(acf: [i32; 9], scalvad: i16, rvad: [i16; 9], normrvad: i16) -> Energies
     ensures { result ≡ clause.energy_of acf scalvad rvad normrvad }
 {
     if acf[0] == 0 {
         return Energies {
-            acf0: Pair { e: -32768, m: 0 },
-            pvad: Pair { e: -32768, m: 0 },
+            acf0: SILENT,
+            pvad: SILENT,
         };
     }
-    let a = acf0(acf, scalvad);
+    let acf0 = acf0(acf, scalvad);
     let sum = positive(filter_sum(acf, rvad));
-    let e = a.e;
     Energies {
-        acf0: a,
-        pvad: pvad(e, normrvad, sum),
+        pvad: pvad(acf0.e, normrvad, sum),
+        acf0,
     }
 }

@@ -1,59 +1,61 @@
 -- What a caller of `start`, `feed` and `finish` gets, by their promises alone, is what the run of the whole input writes, however the input is
 -- cut. Assumes nothing.
-use mathlib.Core.Path.{◌≡◌, refl, ap}
-use mathlib.Core.List.{List}
-use Prim.Native.Nat.{ℕ, ◌/◌, ◌≤◌}
+use mathlib.Core.Path.{◌≡◌, refl, sym, ◌∙◌}
+use mathlib.Core.List.{List, []}
+use Prim.Native.Nat.{ℕ, ◌≤◌}
 use native.Mathlib.Omega.{arith}
-use borrow.Author.Tests.{le-leb, leb-true}
-use lib.Dec.{eqb, leb}
-use lib.ListN.{length, take}
-use Rattle.rows.specs.Choice.{IF◌THEN◌ELSE◌}
-use Rattle.rows.proofs.Choice.{by_test}
-use Rattle.pieces.specs.Lines.{lines_of}
+use lib.ListN.{length}
+use Rattle.pieces.specs.Lines.{lines_of, plain_of}
 use Rattle.pieces.specs.Cut.{held_of}
 use Rattle.pieces.specs.Calls.{Call, pieces_of}
 use Rattle.pieces.specs.Pieces.{flat}
-use Rattle.pieces.proofs.Calls.{last_text, calls_whole}
-use Rattle.pieces.proofs.Written.{put_front}
-use Rattle.pieces.proofs.Runs.{handed_fits}
-use Rattle.exchange.specs.declared.Exchange.{Exchange}
-use Rattle.exchange.specs.declared.Fed.{Fed}
-use Rattle.exchange.specs.Run.{next_of, write_of, bank_of, answers_of, run_of}
-use Rattle.exchange.specs.Fed.{start_of, written_of, next_exchange, fed_of, out_after, finish_of, given_of, left_of, last_of, calls_from}
-use Rattle.exchange.proofs.Steps.{short_next, short_text, text_most}
+use Rattle.pieces.proofs.Carried.{held_plain}
+use Rattle.samples.specs.Beside.{Beside, next_beside, text_beside}
+use Rattle.player.specs.declared.Player.{Player}
+use Rattle.player.specs.declared.Fed.{Fed}
+use Rattle.player.specs.Played.{whole_of, texts_of, finish_of as finish_in}
+use Rattle.player.proofs.Calls as player
+use Rattle.runner.specs.Said as runner
+use Rattle.card.specs.History.{all_reset}
+use Rattle.exchange.specs.declared.Bank.{Bank}
+use Rattle.exchange.specs.Run.{channels, malformed, next_of, write_of, answers_of, run_of}
+use Rattle.exchange.specs.Hears as hears
+use Rattle.exchange.specs.Laws as law
+use Rattle.exchange.specs.Fed.{start_of, fed_of, finish_of, calls_from}
+use Rattle.exchange.proofs.Steps.{cut_text}
 
--- ---- a piece
-module _ (x : Exchange) (p o : List ℕ) (h : length p ≤ length o / 4) where
-  pub fed_next : (fed_of x p (length o)).exchange ≡ next_exchange x p
-  unfolding fed_of IF◌THEN◌ELSE◌
-  fed_next = rw (le-leb (length p) (length o / 4) h)
-
-  pub fed_text : take (fed_of x p (length o)).wrote (out_after x p o) ≡ written_of x p
-  unfolding fed_of out_after IF◌THEN◌ELSE◌ written_of answers_of
-  fed_text = rw (le-leb (length p) (length o / 4) h) (put_front o (written_of x p) (handed_fits next_of write_of 4 text_most x.finder p x.bank (length o) (omega arith)))
-
-pub wrote_fits : (x : Exchange) (p : List ℕ) (n : ℕ) → (fed_of x p n).wrote ≤ n
-unfolding fed_of written_of answers_of
-wrote_fits x p n =
-    by_test (λ (f : Fed). f.wrote ≤ n) (leb (length p) (n / 4)) _ _
-    (λ t. let h = leb-true (length p) (n / 4) t in handed_fits next_of write_of 4 text_most x.finder p x.bank n (omega arith))
-    (λ t. omega arith)
+-- ---- a piece, as code makes it
+pub fed_fits : (x : Player Bank) (p : List ℕ) (n : ℕ) (f : Fed Bank) → f ≡ fed_of x p n → f.wrote ≤ n
+fed_fits x p n f e = player.fed_fits hears.next_of hears.text_of 4 law.text_most x p [] n f e
 
 -- ---- the end: what is carried is a line
-pub finish_fits : (x : Exchange) → (finish_of x).wrote ≤ 4
-unfolding finish_of
-finish_fits x = by_test (λ (n : ℕ). n ≤ 4) (eqb (length (held_of x.finder)) 0) _ _ (λ t. omega arith) (λ t. omega arith)
+pub finish_fits : (x : Player Bank) → (finish_of x).wrote ≤ 4
+finish_fits x = player.finish_fits 4 x (hears.cut_of x.hearer)
 
-finish_last : (x : Exchange) → take (finish_of x).wrote (finish_of x).text ≡ answers_of x.bank (lines_of (held_of x.finder))
-unfolding finish_of answers_of
-finish_last x = last_text next_of write_of x.bank x.finder 4 _ (text_most x.bank (held_of x.finder)) refl
+heard_cut : (b : Bank) (s l : List ℕ) → plain_of l ≡ length l → hears.text_of b s l ≡ hears.cut_of b
+unfolding hears.text_of malformed
+heard_cut b s l p = cut_text b.states l p
+
+-- which is answered as any other
+pub finish_text : (x : Player Bank) → (finish_of x).text ≡ write_of x.hearer.states (held_of x.finder)
+unfolding finish_in hears.text_of
+finish_text x = sym (heard_cut x.hearer [] (held_of x.finder) (held_plain x.finder))
+
+cut_room : (b : Bank) → length (hears.cut_of b) ≤ 4
+unfolding runner.text_of
+cut_room b = omega arith
 
 -- ---- all calls
+-- what the bank writes for the lines that it hears is what the run writes
+heard_all : (b : Bank) (input : List ℕ) → whole_of hears.next_of hears.text_of b [] input ≡ answers_of b.states (lines_of input)
+unfolding whole_of texts_of answers_of next_beside text_beside hears.next_of hears.text_of
+heard_all b input =
+    player.text_as (next_beside hears.next_of) (text_beside hears.text_of) next_of write_of (λ (x : Beside Bank). x.state.states) (λ x l. refl) (λ x l. refl)
+    (record { state = b; left = [] }) (lines_of input)
+
+-- what a caller gets by the promises
 pub called : (cs : List (Call 4)) → calls_from start_of cs ≡ run_of (flat (pieces_of cs))
-unfolding start_of calls_from given_of left_of last_of run_of answers_of written_of next_exchange bank_of
+unfolding run_of
 called cs =
-    calls_whole next_of write_of (λ (x : Exchange). x.bank) (λ (x : Exchange). x.finder) given_of left_of last_of
-    (λ x c. fed_text x c.piece c.lent c.room)
-    (λ x c. ap (λ (n : Exchange). n.bank) (fed_next x c.piece c.lent c.room))
-    (λ x c. ap (λ (n : Exchange). n.finder) (fed_next x c.piece c.lent c.room))
-    finish_last short_next short_text start_of refl cs
+    player.called_alone hears.next_of hears.text_of 4 law.text_most law.short_next law.short_text 4 hears.cut_of cut_room heard_cut (record { states = all_reset channels }) cs
+    ∙ heard_all (record { states = all_reset channels }) (flat (pieces_of cs))

@@ -1,85 +1,36 @@
--- The form of a line: what a well-formed one ends with, so that of a longer one its first 85 bytes are enough and one that the end of the input cuts is
--- malformed; and its first two characters. Assumes nothing.
-use mathlib.Core.Path.{◌≡◌, refl, sym, ap, ◌∙◌}
+-- The form of a line: one that the end of the input cuts is malformed; and its first two characters. Assumes nothing.
+use mathlib.Core.Path.{◌≡◌, refl, ap, ◌∙◌}
 use mathlib.Core.Bool.{Bool, true, false, ◌&&◌, ◌||◌}
 use mathlib.Core.List.{List, [], ◌∷◌}
-use Prim.Native.Nat.{ℕ, suc, ◌+◌, ◌*◌, ◌<◌, ◌≤◌}
+use Prim.Native.Nat.{ℕ, ◌+◌, ◌*◌, ◌<◌, ◌≤◌}
 use native.Mathlib.Omega.{arith}
-use borrow.Author.Tests.{eqb-true, leb-true, leb-false, lt-ltb, le-ltb}
-use lib.Dec.{eqb, leb, ltb}
-use lib.ListN.{length, take, drop, get_or, length-take, length-drop}
-use lib.Seq.{take_all, get_or-drop}
+use borrow.Author.Tests.{lt-ltb, le-ltb}
+use lib.Dec.{ltb}
+use lib.ListN.{length, take, drop, get_or}
 use Rattle.rows.specs.Rows.{all}
-use Rattle.rows.proofs.Choice.{either, and_left, and_right, by_yes, by_no}
+use Rattle.rows.proofs.Choice.{either, by_yes, by_no}
 use Rattle.lines.specs.Hex.{value_of, hex_of, number_from, number_of}
 use Rattle.lines.specs.Answers.{parsed_of}
-use Rattle.lines.proofs.Fields.{formed}
-use Rattle.pieces.specs.Lines.{plain_of, short, kept}
+use Rattle.pieces.specs.Lines.{plain_of}
 use Rattle.pieces.proofs.Found.{plain_at}
 use Rattle.exchange.specs.Line.{channel_in, calls_of, resets_of, orderly}
+use Rattle.exchange.specs.Laws.{orderly_end}
 use Rattle.exchange.specs.Named.{none_of, found_of, named_of}
 
--- ---- the line feed of a well-formed line, and so its length
-pub record Ends (l : List ℕ) : Type 0 where
-  pub last : ℕ
-  pub size : length l ≡ suc last
-  pub least : 2 ≤ last
-  pub most : last ≤ 83
-  pub feed : get_or l last 0 ≡ 10
-
+-- ---- how a well-formed line ends
 module _ (l : List ℕ) where
-  calls_end : calls_of l ≡ true → Ends l
-  unfolding calls_of
-  calls_end t =
-      let f = formed (drop 2 l) t in
-      let n = f.size in
-      let d = length-drop 2 l in
-      record { last = 83; size = omega arith; least = omega arith; most = omega arith; feed = sym (get_or-drop 2 l 81 0) ∙ f.feed }
-
-  resets_end : resets_of l ≡ true → Ends l
-  unfolding resets_of
-  resets_end t =
-      let a = and_left (eqb (length l) 3) (eqb (get_or l 2 0) 10) t in
-      let b = and_right (eqb (length l) 3) (eqb (get_or l 2 0) 10) t in
-      record { last = 2; size = eqb-true (length l) 3 a; least = omega arith; most = omega arith; feed = eqb-true (get_or l 2 0) 10 b }
-
-  pub orderly_end : orderly l ≡ true → Ends l
-  unfolding orderly
-  orderly_end t = go (calls_of l) refl (and_right (all hex_of (take 2 l)) (calls_of l || resets_of l) t)
-    where
-      go : (b : Bool) → calls_of l ≡ b → (calls_of l || resets_of l) ≡ true → Ends l
-      go true e h = calls_end e
-      go false e h = resets_end (rw e at h)
-
   -- a line with no line feed in it
   pub cut_malformed : plain_of l ≡ length l → orderly l ≡ false
   cut_malformed p =
       either (orderly l ≡ false) (orderly l)
-      (λ t. let e = orderly_end t in let n = e.size in let h = plain_at l e.last (omega arith) e.feed in absurd (omega arith))
+      (λ t. let e = orderly_end l t in let n = e.size in let h = plain_at l e.last (omega arith) e.feed in absurd (omega arith))
       (λ t. t)
 
   pub brief_malformed : length l < 3 → orderly l ≡ false
   brief_malformed h =
       either (orderly l ≡ false) (orderly l)
-      (λ t. let e = orderly_end t in let n = e.size in let m = e.least in absurd (omega arith))
+      (λ t. let e = orderly_end l t in let n = e.size in let m = e.least in absurd (omega arith))
       (λ t. t)
-
-  pub long_malformed : 84 < length l → orderly l ≡ false
-  long_malformed h =
-      either (orderly l ≡ false) (orderly l)
-      (λ t. let e = orderly_end t in let n = e.size in let m = e.most in absurd (omega arith))
-      (λ t. t)
-
--- ---- what goes by the form alone, and leaves malformed lines alone, goes by the first 85 bytes
-pub by_short : {A : Type 0} (x : List ℕ → A) (y : A) → ((l : List ℕ) → orderly l ≡ false → x l ≡ y) → (l : List ℕ) → x (short l) ≡ x l
-unfolding short
-by_short x y f l =
-    either (x (take kept l) ≡ x l) (leb (length l) kept)
-    (λ t. ap x (take_all kept l (leb-true (length l) kept t)))
-    (λ t.
-    let h = leb-false (length l) kept t in
-    let n = length-take kept l in
-    f (take kept l) (long_malformed (take kept l) (omega arith)) ∙ sym (f l (long_malformed l (omega arith))))
 
 -- ---- the first two characters
 pub two : (l : List ℕ) → 2 ≤ length l → take 2 l ≡ get_or l 0 0 ∷ get_or l 1 0 ∷ []

@@ -1,9 +1,9 @@
 -- One line on a bank of 64: what is read of it and what is made of its channel's state are together its answer and the bank for the next. And what the
--- proofs of `run`, `feed` and `finish` cite. Assumes nothing.
+-- proof of `hear` cites. Assumes nothing.
 use mathlib.Core.Path.{◌≡◌, refl, sym, ap, subst, ◌∙◌}
 use mathlib.Core.Bool.{Bool, true, false, not}
 use mathlib.Core.List.{List, [], ◌∷◌}
-use Prim.Native.Nat.{ℕ, zero, suc, ◌<◌, ◌≤◌}
+use Prim.Native.Nat.{ℕ, zero, suc, ◌<◌}
 use native.Mathlib.Omega.{arith}
 use borrow.Author.Tests.{ne_eqb}
 use lib.Dec.{T as Holds}
@@ -17,19 +17,17 @@ use Rattle.lines.proofs.Answers.{parsed_formed}
 use Rattle.state.specs.declared.State.{State}
 use Rattle.state.specs.Valid.{reset_of}
 use Rattle.detector.specs.Run.{answer_to}
-use Rattle.pieces.specs.Lines.{plain_of, short}
+use Rattle.pieces.specs.Lines.{plain_of}
 use Rattle.runner.specs.declared.Said.{Said}
 use Rattle.runner.specs.Said.{stepped_of, denied_of, text_of}
-use Rattle.runner.proofs.Steps.{text_four}
 use Rattle.card.specs.Card.{Order, call, reset, channel_of, in_bank, called_of, number_only, answer_of, bank_after}
-use Rattle.card.specs.Card as card
 use Rattle.card.proofs.Orders.{answer_out, bank_out, call_answer, call_bank, reset_answer, reset_bank}
 use Rattle.card.proofs.Shared.{inside}
 use Rattle.exchange.specs.declared.Named.{Named}
 use Rattle.exchange.specs.Line.{channel_in, calls_of, orderly, frame_at, order_in}
 use Rattle.exchange.specs.Run.{channels, replied_of, malformed, reply_of, next_of, write_of}
 use Rattle.exchange.specs.Named.{none_of, found_of, named_of, said_of}
-use Rattle.exchange.proofs.Form.{cut_malformed, by_short}
+use Rattle.exchange.proofs.Form.{cut_malformed}
 
 -- ---- a malformed line
 module _ (bank : List State) (l : List ℕ) (t : orderly l ≡ false) where
@@ -63,23 +61,10 @@ module _ (bank : List State) (l : List ℕ) (o : Order) (t : orderly l ≡ true)
   unfolding next_of
   next_by = by_yes _ _ t ∙ ap (bank_after bank) e
 
--- of a longer line the first 85 bytes are enough
-pub short_next : (bank : List State) (l : List ℕ) → next_of bank (short l) ≡ next_of bank l
-short_next bank l = by_short (next_of bank) bank (malformed_next bank) l
-
-pub short_text : (bank : List State) (l : List ℕ) → write_of bank (short l) ≡ write_of bank l
-unfolding write_of
-short_text bank l = ap text_of (by_short (reply_of bank) malformed (malformed_reply bank) l)
-
 -- a line that the end of the input cuts
 pub cut_text : (bank : List State) (l : List ℕ) → plain_of l ≡ length l → write_of bank l ≡ text_of malformed
 unfolding write_of
 cut_text bank l p = ap text_of (malformed_reply bank l (cut_malformed l p))
-
--- an answer has four bytes
-pub text_most : (bank : List State) (l : List ℕ) → length (write_of bank l) ≤ 4
-unfolding write_of
-text_most bank l = let h = text_four (reply_of bank l) in omega arith
 
 -- ---- the channel that is named is one of the 64
 pub named_in : (l : List ℕ) → (named_of l).channel < 64
@@ -135,7 +120,7 @@ module _ (bank : List State) (l : List ℕ) (size : length bank ≡ channels) wh
   named r d = record { refusal = 0; resets = r; channel = c; acf = d.acf; lags = d.lags; scale = d.scale }
 
   call_steps : orderly l ≡ true → in_bank channels c ≡ true → calls_of l ≡ true → Steps bank l (named false (accepted_of (frame_of (drop 2 l))))
-  unfolding said_of stepped_of IF◌THEN◌ELSE◌ accepted_of replied_of card.stepped_of called_of answer_to frame_at
+  unfolding said_of stepped_of IF◌THEN◌ELSE◌ accepted_of replied_of called_of answer_to frame_at
   call_steps t u v =
       let o = order_call l v in
       let h = in_bank_lem true u in

@@ -9,7 +9,7 @@ use Rattle.state.specs.declared.State.{State}
 use Rattle.pieces.specs.Lines.{lines_of}
 use Rattle.pieces.specs.Pieces.{state_after, text_after}
 use Rattle.runner.specs.Said.{text_of}
-use Rattle.card.specs.declared.Called.{Called}
+use Rattle.card.specs.Called.{Called}
 use Rattle.card.specs.Card.{answer_of, bank_after}
 use Rattle.card.specs.History.{all_reset}
 use Rattle.exchange.specs.Line.{orderly, order_in}

@@ -1,20 +1,19 @@
 // A card's trace run piece by piece: each line is an order on one of 64 channels. The bank, and what is unfinished, are carried by value.
 #![tactic(auto)]
 
-ghost use Rattle.std.specs.Prelude.{◌≡◌, ◌+◌, ◌*◌, ◌≤◌, length};
-ghost use Rattle.pieces.specs.Lines.{lines_of};
-ghost use Rattle.pieces.specs.Put.{put_of};
+ghost use Rattle.std.specs.Prelude.{◌≡◌, length};
 ghost use Rattle.lines.specs.Answers.{accepted_of};
 ghost use Rattle.runner.specs.Said.{answer_bytes, denied_of};
 ghost use Rattle.exchange.specs.Line as form;
 ghost use Rattle.exchange.specs.Named as one;
-ghost use Rattle.exchange.specs.Run as run;
+ghost use Rattle.exchange.specs.Hears as hears;
+ghost use Rattle.exchange.specs.Laws as law;
 ghost use Rattle.exchange.specs.Fed as piece;
 
 use card::{CHANNELS, in_bank};
 use counts::Reply;
 use lines::Frame;
-use pieces::Finder;
+use player::{Hearer, Player};
 use runner::Said;
 use state::State;
 
@@ -33,34 +32,18 @@ const NO_FRAME: Frame = Frame {
     lags: [0; 4],
 };
 
-// A run between two pieces: the bank and the unfinished line.
+// The states of a card's channels.
 #[derive(Clone, Copy)]
-pub struct Exchange {
-    pub bank: [State; CHANNELS],
-    pub finder: Finder,
+pub struct Bank {
+    pub states: [State; CHANNELS],
 }
 
-// What some lines leave: the bank, and where the next answer is written.
-#[derive(Clone, Copy)]
-pub struct Ran {
-    pub bank: [State; CHANNELS],
-    pub wrote: usize,
-}
+// A run between two pieces, what a piece is answered, and what the end of the input gives.
+pub type Exchange = Player<Bank>;
 
-// What a piece is answered: its refusal number, how many bytes of the output are written, and the exchange for the next piece.
-#[derive(Clone, Copy)]
-pub struct Fed {
-    pub refusal: u8,
-    pub wrote: usize,
-    pub exchange: Exchange,
-}
+pub type Fed = player::Fed<Bank>;
 
-// What the end of the input gives: the first `wrote` bytes of `text`.
-#[derive(Clone, Copy)]
-pub struct Last {
-    pub wrote: usize,
-    pub text: [u8; ANSWER],
-}
+pub type Last = player::Last<ANSWER>;
 
 // What a line names: a channel of the bank, and its reset or the numbers of a frame; or 6, or 9, and channel 0.
 #[derive(Clone, Copy)]
@@ -161,64 +144,45 @@ fn answer(s: State, n: Named) -> Said
         return kept(n.refusal, s);
     }
     if n.resets {
-        let fresh = State::reset();
-        return kept(0, fresh);
+        return kept(0, State::reset());
     }
-    let acf = n.acf;
-    let lags = n.lags;
-    let r = detector::step(&acf, &lags, n.scale, s);
-    let next = r.next;
-    Said {
-        reply: Reply {
-            refusal: r.refusal,
-            vad: r.vad,
-            vvad: r.vvad,
-        },
-        next,
+    runner::stepped(detector::step(&n.acf, &n.lags, n.scale, s))
+}
+
+// Where a line names no channel, the state of channel 0 is taken out, and stored as it was.
+impl Hearer for Bank {
+    const MOST: usize = ANSWER;
+
+    ghost MOST = { answer_bytes };
+
+    ghost next = { hears.next_of };
+
+    ghost text = { hears.text_of };
+
+    fn hear(&mut self, _block: &[u8], line: &[u8], out: &mut [u8], at: usize) -> usize {
+        let n = read(line);
+        let said = answer(self.states[n.channel], n);
+        self.states[n.channel] = said.next;
+        pieces::put(out, at, &runner::text(said.reply));
+        at + ANSWER
     }
+
+    ghost most = { law.text_most };
+
+    ghost short_next = { law.short_next };
+
+    ghost short_text = { law.short_text };
 }
 
 // ---- a run in pieces
-
-// Answers the lines of an input; the answers are written from `at` on. Where a line names no channel, the state of channel 0 is taken out, and stored as it was.
-fn run(bank: [State; CHANNELS], input: &[u8], out: &mut [u8], at: usize) -> Ran
-    requires { at + answer_bytes * length (lines_of input.now) ≤ length out.old }
-    ensures value { result ≡ piece.ran_of bank input.now at }
-    ensures out_after { out.new ≡ put_of out.old at (run.answers_of bank (lines_of input.now)) }
-{
-    let mut states = bank;
-    let mut wrote = at;
-    let mut i: usize = 0;
-    while i < input.len() {
-        let to = pieces::line_end(input, i);
-        let n = read(&input[i..to]);
-        let channel = n.channel;
-        let s = states[channel];
-        let a = answer(s, n);
-        let next = a.next;
-        states[channel] = next;
-        let reply = a.reply;
-        let t = runner::text(reply);
-        pieces::put(out, wrote, &t);
-        wrote += ANSWER;
-        i = to;
-    }
-    Ran {
-        bank: states,
-        wrote,
-    }
-}
 
 // A run before its first piece.
 pub fn start() -> Exchange
     ensures { result ≡ piece.start_of }
 {
-    let state = State::reset();
-    let finder = pieces::start();
-    Exchange {
-        bank: [state; CHANNELS],
-        finder,
-    }
+    player::start(Bank {
+        states: [State::reset(); CHANNELS],
+    })
 }
 
 // Feeds a piece of the input; `out` has four bytes for each byte of the piece.
@@ -226,51 +190,17 @@ pub fn feed(x: Exchange, input: &[u8], out: &mut [u8]) -> Fed
     ensures value { result ≡ piece.fed_of x input.now (length out.old) }
     ensures out_after { out.new ≡ piece.out_after x input.now out.old }
 {
-    if out.len() / ANSWER < input.len() {
-        return Fed {
-            refusal: 1,
-            wrote: 0,
-            exchange: x,
-        };
-    }
-    let bank = x.bank;
-    let finder = x.finder;
-    let c = pieces::cut(finder, input);
-    let head = c.head;
-    let n = c.n;
-    let a = run(bank, &head[..n], out, 0);
-    let from = c.from;
-    let to = c.to;
-    let middle = a.bank;
-    let b = run(middle, &input[from..to], out, a.wrote);
-    let next = b.bank;
-    let rest = c.rest;
-    Fed {
-        refusal: 0,
-        wrote: b.wrote,
-        exchange: Exchange {
-            bank: next,
-            finder: rest,
-        },
-    }
+    player::feed(x, input, &[], out)
 }
 
 // The end of the input: what is carried is a line too, and malformed.
 pub fn finish(x: Exchange) -> Last
     ensures { result ≡ piece.finish_of x }
 {
-    let finder = x.finder;
-    let n = pieces::held(finder);
-    let t = runner::text(Reply {
+    let malformed = runner::text(Reply {
         refusal: 6,
         vad: false,
         vvad: false,
     });
-    if n == 0 {
-        return Last { wrote: 0, text: t };
-    }
-    Last {
-        wrote: ANSWER,
-        text: t,
-    }
+    player::finish(x, malformed)
 }

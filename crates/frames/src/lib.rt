@@ -3,7 +3,8 @@
 
 ghost use Rattle.std.specs.Prelude.{◌≡◌};
 ghost use Rattle.refusals.specs.Refusal.{number_in};
-ghost use Rattle.frames.specs.Frame.{acf_ok, lags_ok, frame_refusal_of};
+ghost use Rattle.frames.specs.Frame.{samples_ok, acf_ok, lags_ok, frame_refusal_of};
+ghost use Rattle.frames.specs.Direction.{direction_in};
 
 use lags::lag_ok;
 use operations::magnitude;
@@ -17,6 +18,25 @@ pub const LAGS: usize = 4;
 
 // The samples of a downlink frame.
 pub const SAMPLES: usize = 160;
+
+// A frame goes up, from the handset to the network, or down, and then has its samples too.
+#[derive(Clone, Copy)]
+pub enum Direction<'a> {
+    Uplink,
+    Downlink(&'a [i16]),
+}
+
+impl<'a> Direction<'a> {
+    // Whether a downlink frame has its 160 samples.
+    pub fn samples_ok(self) -> bool
+        ensures { result ≡ samples_ok (direction_in self.entry) }
+    {
+        match self {
+            Direction::Uplink => true,
+            Direction::Downlink(samples) => samples.len() == SAMPLES,
+        }
+    }
+}
 
 // Whether no number is larger in magnitude than the first, which is not negative.
 fn acf_ok(acf: [i32; 9]) -> bool

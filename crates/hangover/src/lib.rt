@@ -18,47 +18,54 @@ pub struct Hung {
     pub hangcount: i16,
 }
 
+impl Hung {
+    // The flag kept up by a running hangover, which is then one frame shorter.
+    fn run_down(self) -> Hung
+        ensures { result ≡ run_down_of self.vad self.burstcount self.hangcount }
+    {
+        if self.hangcount >= 0 {
+            Hung {
+                vad: true,
+                hangcount: sub(self.hangcount, 1),
+                ..self
+            }
+        } else {
+            self
+        }
+    }
+
+    // A burst that is long enough starts the hangover anew.
+    fn started(self) -> Hung
+        ensures { result ≡ started_of self.vad self.burstcount self.hangcount }
+    {
+        if self.burstcount >= BURSTCONST {
+            Hung {
+                burstcount: BURSTCONST,
+                hangcount: HANGCONST,
+                ..self
+            }
+            .run_down()
+        } else {
+            self.run_down()
+        }
+    }
+}
+
 // The frames of raw speech in a row, this one counted.
 fn burst(vvad: bool, burstcount: i16) -> i16
     ensures { result ≡ burst_of vvad burstcount }
 {
-    if vvad {
-        return add(burstcount, 1);
-    }
-    0
-}
-
-// The flag, with a running hangover one frame shorter.
-fn run_down(vvad: bool, burstcount: i16, hangcount: i16) -> Hung
-    ensures { result ≡ run_down_of vvad burstcount hangcount }
-{
-    if hangcount >= 0 {
-        return Hung {
-            vad: true,
-            burstcount: burstcount,
-            hangcount: sub(hangcount, 1),
-        };
-    }
-    Hung {
-        vad: vvad,
-        burstcount: burstcount,
-        hangcount: hangcount,
-    }
-}
-
-// A burst that is long enough starts the hangover anew.
-fn started(vvad: bool, burstcount: i16, hangcount: i16) -> Hung
-    ensures { result ≡ started_of vvad burstcount hangcount }
-{
-    if burstcount >= BURSTCONST {
-        return run_down(vvad, BURSTCONST, HANGCONST);
-    }
-    run_down(vvad, burstcount, hangcount)
+    if vvad { add(burstcount, 1) } else { 0 }
 }
 
 // The flag of a frame with the raw decision vvad, and the two counts after it.
 pub fn hangover(vvad: bool, burstcount: i16, hangcount: i16) -> Hung
     ensures { result ≡ hangover_of vvad burstcount hangcount }
 {
-    started(vvad, burst(vvad, burstcount), hangcount)
+    Hung {
+        vad: vvad,
+        burstcount: burst(vvad, burstcount),
+        hangcount,
+    }
+    .started()
 }

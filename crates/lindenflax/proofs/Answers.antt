@@ -7,23 +7,20 @@ use native.Mathlib.Omega.{arith}
 use lib.Dec.{eqb}
 use borrow.Author.Tests.{eq-eqb, ne_eqb, eqb-true, eqb-false}
 use lib.IntN.{ℤ}
-use lib.ListN.{length, set}
+use lib.ListN.{length}
 use Rattle.rows.specs.Choice.{IF◌THEN◌ELSE◌}
-use Rattle.rows.specs.Rows.{row}
 use Rattle.rows.proofs.Choice.{both, and_left, and_right, either}
 use Rattle.frames.specs.Frame.{Direction, samples_ok}
-use Rattle.detector.specs.declared.Answer.{Answer}
+use Rattle.detector.specs.Answer.{Answer}
 use Rattle.detector.specs.Step.{answer_for}
 use Rattle.detector.proofs.Table.{accepted_0}
 use Rattle.detector.proofs.Keeps.{next_pointers}
 use Rattle.lindenflax.specs.Run.{run_of, state_of, narrow_of, answer_of, lengths_of, lent_number, step_number, run_after, answer_after, step_run, step_answer}
-use Rattle.lindenflax.proofs.Parted.{spread}
 
--- six stores into a run of six numbers, of values that are known
-pub six : (l : List ℤ) → length l ≡ 6 → {a b c d e f p q r s t u : ℤ} → a ≡ p → b ≡ q → c ≡ r → d ≡ s → e ≡ t → f ≡ u
-    → set (set (set (set (set (set l 0 a) 1 b) 2 c) 3 d) 4 e) 5 f ≡ p ∷ q ∷ r ∷ s ∷ t ∷ u ∷ []
-unfolding row
-six l h e0 e1 e2 e3 e4 e5 = rw (spread l 6 h, e0, e1, e2, e3, e4, e5)
+-- six numbers that are known
+pub six : {a b c d e f p q r s t u : ℤ} → a ≡ p → b ≡ q → c ≡ r → d ≡ s → e ≡ t → f ≡ u
+    → a ∷ b ∷ c ∷ d ∷ e ∷ f ∷ [] ≡ p ∷ q ∷ r ∷ s ∷ t ∷ u ∷ []
+six e0 e1 e2 e3 e4 e5 = cc
 
 -- ---- what is lent
 module _ (acf : List ℤ) (lags : List ℕ) (run answer : List ℤ) where

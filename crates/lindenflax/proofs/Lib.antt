@@ -4,3 +4,4 @@ pub mod Answers
 pub mod Rounds
 pub mod Lines
 pub mod LineTrip
+pub mod Turns

@@ -6,7 +6,7 @@ use mathlib.Core.List.{List, [], ◌∷◌, ◌++◌}
 use Prim.Native.Nat.{ℕ}
 use lib.Dec.{T}
 use lib.IntN.{ℤ, nat_abs, pos}
-use lib.ListN.{length, set}
+use lib.ListN.{length}
 use lib.Signed.{lt_z}
 use Rattle.numbers.specs.Sum.{at}
 use Rattle.numbers.proofs.Parts.{zarith, of, sign}
@@ -151,13 +151,21 @@ run_state l h t =
     )
     (joined l h)
 
--- ---- the stores that make a run: those of values that are the fields, each at its place, into a run with the three arrays
-pub packs : (z : List ℤ) (s : State) → length z ≡ 85 → Shaped s → {b : List ℤ} {n p q d e m a u g o v k f : ℤ} → b ≡ stored (stored (stored z 0 s.rvad 9) 10 s.sacf 27) 38 s.sav0 36
-    → n ≡ s.normrvad → p ≡ pos s.ptsacf → q ≡ pos s.ptsav0 → d ≡ s.lastdm → e ≡ s.thvad.e → m ≡ s.thvad.m → a ≡ s.adaptcount → u ≡ s.burstcount → g ≡ s.hangcount → o ≡ s.oldlagcount → v ≡ s.veryoldlagcount → k ≡ pos s.oldlag → f ≡ bit_of s.tone
-    → set (set (set (set (set (set (set (set (set (set (set (set (set b 9 n) 37 p) 74 q) 75 d) 76 e) 77 m) 78 a) 79 u) 80 g) 81 o) 82 v) 83 k) 84 f ≡ run_of s
+-- ---- the stores that make a run: those of the fields, each part at its place, into a run of 85 numbers
+pub packs : (z : List ℤ) (s : State) → length z ≡ 85 → Shaped s → {a b c r t u g : List ℤ} {n p q d e m h i j k l v f : ℤ}
+    → g ≡ s.rvad → n ≡ s.normrvad → p ≡ pos s.ptsacf → q ≡ pos s.ptsav0 → d ≡ s.lastdm → e ≡ s.thvad.e → m ≡ s.thvad.m → h ≡ s.adaptcount → i ≡ s.burstcount → j ≡ s.hangcount → k ≡ s.oldlagcount → l ≡ s.veryoldlagcount → v ≡ pos s.oldlag → f ≡ bit_of s.tone
+    → a ≡ stored z 0 g 9 → b ≡ stored a 9 (n ∷ []) 1 → c ≡ stored b 10 s.sacf 27 → r ≡ stored c 37 (p ∷ []) 1 → t ≡ stored r 38 s.sav0 36
+    → u ≡ stored t 74 (q ∷ d ∷ e ∷ m ∷ h ∷ i ∷ j ∷ k ∷ l ∷ v ∷ f ∷ []) 11
+    → u ≡ run_of s
 unfolding run_of row
-packs z s h shape e0 e1 e2 e3 e4 e5 e6 e7 e8 e9 e10 e11 e12 e13 =
+packs z s y shape e0 e1 e2 e3 e4 e5 e6 e7 e8 e9 e10 e11 e12 e13 f0 f1 f2 f3 f4 f5 =
     rw (
+      f5,
+      f4,
+      f3,
+      f2,
+      f1,
+      f0,
       e0,
       e1,
       e2,
@@ -172,7 +180,7 @@ packs z s h shape e0 e1 e2 e3 e4 e5 e6 e7 e8 e9 e10 e11 e12 e13 =
       e11,
       e12,
       e13,
-      spread z 85 h,
+      spread z 85 y,
       spread s.rvad 9 shape.rvad,
       spread s.sacf 27 shape.sacf,
       spread s.sav0 36 shape.sav0,

@@ -19,7 +19,7 @@ use Rattle.state.specs.Valid.{Between}
 use Rattle.state.proofs.Facts.{between}
 use Rattle.lindenflax.specs.Run.{part, shorts_of, narrow_of}
 
--- ---- a run with the count numbers of s in place of those from `first` on, on the way to the whole
+-- ---- a run with the count numbers of s in place of those from `first` on
 abbrev pub stored : List ℤ → ℕ → List ℤ → ℕ → List ℤ
 stored l first s count = take first l ++ s ++ drop (first + count) l
 

@@ -9,7 +9,7 @@ use Rattle.pairs.specs.Pairs.{pair}
 use Rattle.frames.specs.Frame.{Direction, samples_ok}
 use Rattle.state.specs.declared.State.{State}
 use Rattle.state.specs.Valid.{reset_of}
-use Rattle.detector.specs.declared.Answer.{Answer}
+use Rattle.detector.specs.Answer.{Answer}
 use Rattle.detector.specs.Step.{answer_for}
 
 -- the numbers of a state, and of an answer

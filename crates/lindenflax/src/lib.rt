@@ -6,16 +6,18 @@ ghost use Rattle.std.specs.Prelude.{◌≡◌, true, ◌++◌, ◌+◌, ◌<◌,
 ghost use Rattle.std.specs.Int.{w16};
 ghost use Rattle.std.proofs.Common.{SFits};
 ghost use Rattle.numbers.specs.Sum.{at};
-ghost use Rattle.frames.specs.Frame.{up, down, direction_of};
+ghost use Rattle.refusals.specs.Refusal.{number_in};
+ghost use Rattle.frames.specs.Frame.{up, down, samples_ok};
+ghost use Rattle.frames.specs.Direction.{direction_in};
 ghost use Rattle.state.specs.Valid.{Between};
 ghost use Rattle.lindenflax.specs.Run as library;
 ghost use Rattle.lindenflax.specs.Lines as trace;
 
-use detector::{Answer, frame};
-use frames::{LAGS, NUMBERS, SAMPLES};
+use detector::frame;
+use frames::{Direction, LAGS, NUMBERS};
 use lines::{read, write};
 use pairs::Pair;
-use refusals::number_in;
+use refusals::{Refusal, number_in};
 use rows::{all_within, within};
 use state::State;
 
@@ -27,89 +29,71 @@ const ANSWER: usize = 6;
 // ---- a state from a run
 
 // Whether each of the numbers from `first` on is one of 16 bits.
-fn shorts(run: [i32; RUN], first: usize, count: usize) -> bool
+fn shorts(run: &[i32; RUN], first: usize, count: usize) -> bool
     requires { first + count ≤ library.RUN }
-    ensures { result ≡ library.shorts_of (library.part first count run) }
+    ensures { result ≡ library.shorts_of (library.part first count run.now) }
 {
     all_within(-32768, 32767, &run[first..first + count])
 }
 
 // Whether each number fits its field.
-fn narrow(run: [i32; RUN]) -> bool
-    ensures { result ≡ library.narrow_of run }
+fn narrow(run: &[i32; RUN]) -> bool
+    ensures { result ≡ library.narrow_of run.now }
 {
-    if !shorts(run, 0, 10) {
-        return false;
-    }
-    if !shorts(run, 76, 7) {
-        return false;
-    }
-    if !within(0, 27, run[37]) {
-        return false;
-    }
-    if !within(0, 27, run[74]) {
-        return false;
-    }
-    if !within(0, 65535, run[83]) {
-        return false;
-    }
-    within(0, 1, run[84])
+    shorts(run, 0, 10)
+        & shorts(run, 76, 7)
+        & within(0, 27, run[37])
+        & within(0, 27, run[74])
+        & within(0, 65535, run[83])
+        & within(0, 1, run[84])
+}
+
+// The N numbers of a run from `first` on.
+fn part<const N: usize>(run: &[i32; RUN], first: usize) -> [i32; N]
+    requires { first + N ≤ library.RUN }
+    ensures { result ≡ library.part first N run.now }
+{
+    let mut out = [0i32; N];
+    out.copy_from_slice(&run[first..first + N]);
+    out
+}
+
+// A number that is one of 16 bits.
+fn short(x: i32) -> i16
+    requires { SFits w16 x }
+    ensures { result ≡ x }
+{
+    x as i16
 }
 
 // The filter in a run.
-fn filter(run: [i32; RUN]) -> [i16; 9]
-    requires { library.narrow_of run ≡ true }
-    ensures { result ≡ library.part 0 9 run }
+fn filter(run: &[i32; RUN]) -> [i16; 9]
+    requires { library.narrow_of run.now ≡ true }
+    ensures { result ≡ library.part 0 9 run.now }
 {
-    let mut out = [0i16; 9];
-    for i in 0..9 {
-        out[i] = run[i] as i16;
-    }
-    out
-}
-
-// The three frames in a run.
-fn frames(run: [i32; RUN]) -> [i32; 27]
-    ensures { result ≡ library.part 10 27 run }
-{
-    let mut out = [0i32; 27];
-    for i in 0..27 {
-        out[i] = run[10 + i];
-    }
-    out
-}
-
-// The four averages in a run.
-fn sums(run: [i32; RUN]) -> [i32; 36]
-    ensures { result ≡ library.part 38 36 run }
-{
-    let mut out = [0i32; 36];
-    for i in 0..36 {
-        out[i] = run[38 + i];
-    }
-    out
+    part(run, 0).map(short)
 }
 
 // The number at i, which is one of 16 bits.
-fn short_at(run: [i32; RUN], i: usize) -> i16
-    requires { (i < library.RUN) × SFits w16 (at run i) }
-    ensures { result ≡ at run i }
+fn short_at(run: &[i32; RUN], i: usize) -> i16
+    requires { (i < library.RUN) × SFits w16 (at run.now i) }
+    ensures { result ≡ at run.now i }
 {
-    run[i] as i16
+    short(run[i])
 }
 
 // The pointer at i.
-fn pointer_at(run: [i32; RUN], i: usize) -> usize
-    requires { (i < library.RUN) × Between (pos 0) (pos 27) (at run i) }
-    ensures { result ≡ nat_abs (at run i) }
+fn pointer_at(run: &[i32; RUN], i: usize) -> usize
+    requires { (i < library.RUN) × Between (pos 0) (pos 27) (at run.now i) }
+    ensures { result ≡ nat_abs (at run.now i) }
 {
     run[i] as usize
 }
 
 // The last lag.
-fn last_lag(run: [i32; RUN]) -> u16
-    requires { Between (pos 0) (pos 65535) (at run 83) }
-    ensures { result ≡ nat_abs (at run 83) }
+fn last_lag(run: &[i32; RUN]) -> u16
+    requires { Between (pos 0) (pos 65535) (at run.now 83) }
+    ensures { result ≡ nat_abs (at run.now 83) }
 {
     run[83] as u16
 }
@@ -118,10 +102,7 @@ fn last_lag(run: [i32; RUN]) -> u16
 fn flag(x: i32) -> bool
     ensures { result ≡ library.flag_of x }
 {
-    if x == 1 {
-        return true;
-    }
-    false
+    x == 1
 }
 
 // The state in a run whose numbers fit.
@@ -129,71 +110,44 @@ fn unpacked(run: [i32; RUN]) -> State
     requires { library.narrow_of run ≡ true }
     ensures { result ≡ library.state_of run }
 {
-    let rvad = filter(run);
-    let sacf = frames(run);
-    let sav0 = sums(run);
     State {
-        rvad: rvad,
-        normrvad: short_at(run, 9),
-        sacf: sacf,
-        ptsacf: pointer_at(run, 37),
-        sav0: sav0,
-        ptsav0: pointer_at(run, 74),
+        rvad: filter(&run),
+        normrvad: short_at(&run, 9),
+        sacf: part(&run, 10),
+        ptsacf: pointer_at(&run, 37),
+        sav0: part(&run, 38),
+        ptsav0: pointer_at(&run, 74),
         lastdm: run[75],
         thvad: Pair {
-            e: short_at(run, 76),
-            m: short_at(run, 77),
+            e: short_at(&run, 76),
+            m: short_at(&run, 77),
         },
-        adaptcount: short_at(run, 78),
-        burstcount: short_at(run, 79),
-        hangcount: short_at(run, 80),
-        oldlagcount: short_at(run, 81),
-        veryoldlagcount: short_at(run, 82),
-        oldlag: last_lag(run),
+        adaptcount: short_at(&run, 78),
+        burstcount: short_at(&run, 79),
+        hangcount: short_at(&run, 80),
+        oldlagcount: short_at(&run, 81),
+        veryoldlagcount: short_at(&run, 82),
+        oldlag: last_lag(&run),
         tone: flag(run[84]),
     }
 }
 
 // ---- a run from a state
 
-// A run with the filter in its place.
-fn with_filter(run: [i32; RUN], rvad: [i16; 9]) -> [i32; RUN]
-    ensures { result ≡ take 0 run ++ rvad ++ drop (0 + 9) run }
+// A run with N numbers in place of those from `first` on.
+fn with_part<const N: usize>(mut run: [i32; RUN], first: usize, numbers: &[i32; N]) -> [i32; RUN]
+    requires { first + N ≤ library.RUN }
+    ensures { result ≡ take first run ++ numbers.now ++ drop (first + N) run }
 {
-    let mut out = run;
-    for i in 0..9 {
-        out[i] = rvad[i] as i32;
-    }
-    out
-}
-
-// A run with the three frames in their place.
-fn with_frames(run: [i32; RUN], sacf: [i32; 27]) -> [i32; RUN]
-    ensures { result ≡ take 10 run ++ sacf ++ drop (10 + 27) run }
-{
-    let mut out = run;
-    for i in 0..27 {
-        out[10 + i] = sacf[i];
-    }
-    out
-}
-
-// A run with the four averages in their place.
-fn with_sums(run: [i32; RUN], sav0: [i32; 36]) -> [i32; RUN]
-    ensures { result ≡ take 38 run ++ sav0 ++ drop (38 + 36) run }
-{
-    let mut out = run;
-    for i in 0..36 {
-        out[38 + i] = sav0[i];
-    }
-    out
+    run[first..first + N].copy_from_slice(numbers);
+    run
 }
 
 // 1 for a flag that is set and 0 for one that is not.
 fn bit(flag: bool) -> i32
     ensures { result ≡ library.bit_of flag }
 {
-    if flag { 1 } else { 0 }
+    i32::from(flag)
 }
 
 // A state as a run.
@@ -201,28 +155,28 @@ fn packed(s: State) -> [i32; RUN]
     requires { (s.ptsacf ≤ 27) × (s.ptsav0 ≤ 27) }
     ensures { result ≡ library.run_of s }
 {
-    let rvad = s.rvad;
-    let sacf = s.sacf;
-    let sav0 = s.sav0;
-    let thvad = s.thvad;
-    let lastdm = s.lastdm;
-    let a = with_filter([0i32; RUN], rvad);
-    let b = with_frames(a, sacf);
-    let mut out = with_sums(b, sav0);
-    out[9] = s.normrvad as i32;
-    out[37] = s.ptsacf as i32;
-    out[74] = s.ptsav0 as i32;
-    out[75] = lastdm;
-    out[76] = thvad.e as i32;
-    out[77] = thvad.m as i32;
-    out[78] = s.adaptcount as i32;
-    out[79] = s.burstcount as i32;
-    out[80] = s.hangcount as i32;
-    out[81] = s.oldlagcount as i32;
-    out[82] = s.veryoldlagcount as i32;
-    out[83] = s.oldlag as i32;
-    out[84] = bit(s.tone);
-    out
+    let run = with_part([0i32; RUN], 0, &s.rvad.map(i32::from));
+    let run = with_part(run, 9, &[i32::from(s.normrvad)]);
+    let run = with_part(run, 10, &s.sacf);
+    let run = with_part(run, 37, &[s.ptsacf as i32]);
+    let run = with_part(run, 38, &s.sav0);
+    with_part(
+        run,
+        74,
+        &[
+            s.ptsav0 as i32,
+            s.lastdm,
+            i32::from(s.thvad.e),
+            i32::from(s.thvad.m),
+            i32::from(s.adaptcount),
+            i32::from(s.burstcount),
+            i32::from(s.hangcount),
+            i32::from(s.oldlagcount),
+            i32::from(s.veryoldlagcount),
+            i32::from(s.oldlag),
+            bit(s.tone),
+        ],
+    )
 }
 
 // ---- what is lent
@@ -233,9 +187,7 @@ fn taken(state: &[i32]) -> [i32; RUN]
     ensures { result ≡ state.now }
 {
     let mut out = [0i32; RUN];
-    for i in 0..RUN {
-        out[i] = state[i];
-    }
+    out.copy_from_slice(state);
     out
 }
 
@@ -244,9 +196,7 @@ fn put(state: &mut [i32], run: [i32; RUN])
     requires { length state.old ≡ library.RUN }
     ensures { state.new ≡ run }
 {
-    for i in 0..RUN {
-        state[i] = run[i];
-    }
+    state.copy_from_slice(&run);
 }
 
 // Stores an answer into a lent run.
@@ -254,84 +204,56 @@ fn put_answer(answer: &mut [i32], vad: bool, vvad: bool, acf0: Pair, pvad: Pair)
     requires { length answer.old ≡ library.ANSWER }
     ensures { answer.new ≡ library.answer_run vad vvad acf0 pvad }
 {
-    answer[0] = bit(vad);
-    answer[1] = bit(vvad);
-    answer[2] = acf0.e as i32;
-    answer[3] = acf0.m as i32;
-    answer[4] = pvad.e as i32;
-    answer[5] = pvad.m as i32;
+    answer.copy_from_slice(&[
+        bit(vad),
+        bit(vvad),
+        i32::from(acf0.e),
+        i32::from(acf0.m),
+        i32::from(pvad.e),
+        i32::from(pvad.m),
+    ]);
 }
 
-// The first of 1, 8, 5 that refuses what is lent, or 0; `samples` says that a frame has those of its direction.
-fn lent(samples: bool, acf: &[i32], lags: &[u16], state: &[i32], answer: &[i32]) -> u8
-    ensures { result ≡ library.lent_number samples acf.now lags.now state.now answer.now }
+// Whether what is lent to a step can be read: the lengths, the samples of a downlink frame, and the numbers of the state, in this order.
+fn lent(
+    direction: Direction<'_>,
+    acf: &[i32],
+    lags: &[u16],
+    state: &[i32],
+    answer: &[i32],
+) -> Result<(), Refusal>
+    ensures { number_in result ≡ library.lent_number (samples_ok (direction_in direction.entry)) acf.now lags.now state.now answer.now }
 {
-    if acf.len() != NUMBERS {
-        return 1;
+    if acf.len() != NUMBERS || lags.len() != LAGS || state.len() != RUN || answer.len() != ANSWER {
+        return Err(Refusal::Length);
     }
-    if lags.len() != LAGS {
-        return 1;
+    if !direction.samples_ok() {
+        return Err(Refusal::Samples);
     }
-    if state.len() != RUN {
-        return 1;
+    if !narrow(&taken(state)) {
+        return Err(Refusal::State);
     }
-    if answer.len() != ANSWER {
-        return 1;
-    }
-    if !samples {
-        return 8;
-    }
-    if !narrow(taken(state)) {
-        return 5;
-    }
-    0
+    Ok(())
 }
 
-// What follows a step in either direction: an accepted frame's next state and its answer go into the lent runs.
-fn store(a: Answer, state: &mut [i32], answer: &mut [i32]) -> u8
-    requires { (length state.old ≡ library.RUN) × (length answer.old ≡ library.ANSWER) × (a.refusal ≡ 0 → (a.next.ptsacf ≤ 27) × (a.next.ptsav0 ≤ 27)) }
-    ensures value { result ≡ a.refusal }
-    ensures state_after { state.new ≡ library.run_after a.refusal a state.old }
-    ensures answer_after { answer.new ≡ library.answer_after a.refusal a answer.old }
-{
-    let number = a.refusal;
-    if number != 0 {
-        return number;
-    }
-    let next = a.next;
-    let acf0 = a.acf0;
-    let pvad = a.pvad;
-    put(state, packed(next));
-    put_answer(answer, a.vad, a.vvad, acf0, pvad);
-    0
-}
-
-// One frame in either direction.
+// One frame: an accepted one's next state and its answer go into the lent runs.
 fn stepped(
-    downlink: bool,
+    direction: Direction<'_>,
     acf: &[i32],
     lags: &[u16],
     scale: i16,
-    samples: &[i16],
     state: &mut [i32],
     answer: &mut [i32],
-) -> u8
-    ensures value { result ≡ library.step_number (direction_of downlink samples.now) acf.now lags.now scale state.old answer.old }
-    ensures state_after { state.new ≡ library.step_run (direction_of downlink samples.now) acf.now lags.now scale state.old answer.old }
-    ensures answer_after { answer.new ≡ library.step_answer (direction_of downlink samples.now) acf.now lags.now scale state.old answer.old }
+) -> Result<(), Refusal>
+    ensures value { number_in result ≡ library.step_number (direction_in direction.entry) acf.now lags.now scale state.old answer.old }
+    ensures state_after { state.new ≡ library.step_run (direction_in direction.entry) acf.now lags.now scale state.old answer.old }
+    ensures answer_after { answer.new ≡ library.step_answer (direction_in direction.entry) acf.now lags.now scale state.old answer.old }
 {
-    let refused = lent(
-        !downlink | (samples.len() == SAMPLES),
-        acf,
-        lags,
-        state,
-        answer,
-    );
-    if refused != 0 {
-        return refused;
-    }
-    let a = frame(downlink, acf, lags, scale, samples, unpacked(taken(state)));
-    store(a, state, answer)
+    lent(direction, acf, lags, state, answer)?;
+    let a = frame(direction, acf, lags, scale, unpacked(taken(state)))?;
+    put(state, packed(a.next));
+    put_answer(answer, a.vad, a.vvad, a.acf0, a.pvad);
+    Ok(())
 }
 
 // ---- the interface
@@ -362,8 +284,7 @@ pub extern "C" fn lindenflax_step(
     ensures state_after { state.new ≡ library.step_run up acf.now lags.now scale state.old answer.old }
     ensures answer_after { answer.new ≡ library.step_answer up acf.now lags.now scale state.old answer.old }
 {
-    let none = [0i16; 1];
-    stepped(false, acf, lags, scale, &none[..0], state, answer)
+    number_in(stepped(Direction::Uplink, acf, lags, scale, state, answer))
 }
 
 // One frame on the downlink: the same, and its 160 samples.
@@ -380,7 +301,14 @@ pub extern "C" fn lindenflax_downlink(
     ensures state_after { state.new ≡ library.step_run (down samples.now) acf.now lags.now scale state.old answer.old }
     ensures answer_after { answer.new ≡ library.step_answer (down samples.now) acf.now lags.now scale state.old answer.old }
 {
-    stepped(true, acf, lags, scale, samples, state, answer)
+    number_in(stepped(
+        Direction::Downlink(samples),
+        acf,
+        lags,
+        scale,
+        state,
+        answer,
+    ))
 }
 
 // A trace line read: nine autocorrelations, four lags and a run of one for the scale, or the first of 1, 6, 2, 3, 4 that refuses it.

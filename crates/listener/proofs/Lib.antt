@@ -1,4 +1,3 @@
 pub mod Steps
 pub mod Replies
-pub mod Piece
 pub mod Calls

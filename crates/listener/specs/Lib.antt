@@ -1,4 +1,6 @@
 pub mod Said
 pub mod Run
+pub mod Hears
+pub mod Laws
 pub mod Fed
 pub mod Worked

@@ -7,7 +7,7 @@ use Rattle.rows.specs.Choice.{IF◌THEN◌ELSE◌}
 use Rattle.lines.specs.Answers.{decoded_of}
 use Rattle.samples.specs.Samples.{sof_of}
 use Rattle.state.specs.declared.State.{State}
-use Rattle.detector.specs.declared.Answer.{Answer}
+use Rattle.detector.specs.Answer.{Answer}
 use Rattle.detector.specs.Step.{downlink_of}
 use Rattle.listener.specs.declared.Reply.{Reply}
 use Rattle.listener.specs.declared.Said.{Said}

@@ -11,6 +11,8 @@ use lib.Pow.{pow_pos}
 use mir.Syntax.{Width}
 use mir.Val.{SFits, hbits, to_z, of_z}
 use mir.Facts.{to_z-of_z}
+use Rattle.std.specs.Int.{int_max, int_min}
+use Rattle.std.proofs.lemmas.Int.{ints, clamps}
 use Rattle.numbers.specs.Clamp.{clamp}
 use Rattle.numbers.proofs.Parts.{zarith}
 
@@ -52,13 +54,8 @@ clamp_mono w (pos a) (negsuc b) h = absurd (omega zarith)
 clamp_mono w (negsuc a) (pos b) h = omega zarith
 clamp_mono w (negsuc a) (negsuc b) h = omega zarith
 
--- ---- the code `if x > HIGHEST { return HIGHEST; } if x < LOWEST { return LOWEST; } x as NARROW`, with x of the width v
-module _ (v w : Width) {x : ℤ} (f : SFits v x) where
-  pub code_high : highest w ≤ℤ to_z v (of_z v x) → highest w ≡ clamp w x
-  code_high t = sym (clamp_high w x (simp (to_z-of_z, f) at t))
-
-  pub code_low : to_z v (of_z v x) ≤ℤ lowest w → lowest w ≡ clamp w x
-  code_low t = sym (clamp_low w x (simp (to_z-of_z, f) at t))
-
-  pub code_in : SFits w (to_z v (of_z v x)) → to_z w (of_z w (to_z v (of_z v x))) ≡ clamp w x
-  code_in g = to_z-of_z g ∙ to_z-of_z f ∙ sym (clamp_in w x (simp (to_z-of_z, f) at g))
+-- ---- the library's `clamp` between the two ends
+pub between : (w : Width) (z : ℤ) → int_max (lowest w) (int_min z (highest w)) ≡ clamp w z
+unfolding clamp
+between w (pos n) = omega (arith, ints, clamps)
+between w (negsuc n) = omega (arith, ints, clamps)

@@ -1,21 +1,24 @@
 -- Shifts by any amount, at every width: what is shifted out altogether, and the opposite shift of a negative amount. Assumes nothing.
 use mathlib.Core.Path.{◌≡◌, refl, sym, ap, ◌∙◌}
-use mathlib.Core.Bool.{true, false}
-use Prim.Native.Nat.{ℕ, ◌-◌, ◌*◌, ◌/◌, ◌^◌, ◌<◌, ◌≤◌}
+use mathlib.Core.Bool.{Bool, true, false, cond}
+use Prim.Native.Nat.{ℕ, ◌-◌, ◌*◌, ◌/◌, ◌^◌, ◌<◌, ◌≤◌, min}
 use native.Mathlib.Nat.{div-eq_of_lt, lt_of_lt_of_le}
 use native.Mathlib.Omega.{arith}
+use lib.Dec.{ltb}
+use borrow.Author.Tests.{ltb-true, ltb-false}
 use lib.IntN.{ℤ, nat_abs, pos, negsuc, ◌+ℤ◌, ◌-ℤ◌, ◌*ℤ◌}
 use lib.Signed.{lt_z, shr_z}
 use lib.Pow.{pow_mono, pow-add, pow_pos}
 use mir.Syntax.{Width, w16, w32}
 use mir.Val.{SFits, bits, hbits, to_z, of_z}
 use mir.Facts.{to_z-of_z}
+use Rattle.std.specs.Int.{int_shl}
 use Rattle.numbers.specs.Wrap.{wrap}
 use Rattle.operations.specs.Operations.{shift_left, shift_right}
 use Rattle.numbers.proofs.Parts.{zarith, same, lt_yes, lt_no}
 use Rattle.numbers.proofs.Poly.{v, ◌⊕◌, ◌⊖◌, ◌⊗◌, poly, ring}
 use Rattle.numbers.proofs.Floor.{floor_fits, floor_mag, floor_only}
-use Rattle.numbers.proofs.Wrap.{wrap_fits, wrap_congruent, wrap_only}
+use Rattle.numbers.proofs.Wrap.{wrap_fits, wrap_congruent, wrap_only, shl_is}
 
 module _ (w : Width) (x : ℤ) where
   -- by the width or more to the left, nothing is left
@@ -37,6 +40,24 @@ module _ (w : Width) (x : ℤ) where
       by : (z : ℤ) → SFits w z → shr_z z (2 ^ hbits w) ≡ shr_z z (2 ^ k)
       by (pos n) g = ap pos (gone n g.sfits)
       by (negsuc n) g = ap negsuc (gone n g.sfits)
+
+  -- the library's shifts, by any amount
+  pub up_is : (k : ℕ) → SFits w x → cond (ltb k (bits w)) (int_shl w x k) (pos 0) ≡ wrap w (x *ℤ pos (2 ^ k))
+  up_is k f = by (ltb k (bits w)) refl
+    where
+      by : (t : Bool) → ltb k (bits w) ≡ t → cond t (int_shl w x k) (pos 0) ≡ wrap w (x *ℤ pos (2 ^ k))
+      by true e = shl_is w k f
+      by false e = left_far k (ltb-false k (bits w) e)
+
+  pub down_is : (k : ℕ) → SFits w x → shr_z x (2 ^ min k (hbits w)) ≡ shr_z x (2 ^ k)
+  down_is k f = by (ltb k (hbits w)) refl
+    where
+      by : (t : Bool) → ltb k (hbits w) ≡ t → shr_z x (2 ^ min k (hbits w)) ≡ shr_z x (2 ^ k)
+      by true e = ap (λ (j : ℕ). shr_z x (2 ^ j)) (omega (arith, ltb-true k (hbits w) e))
+      by false e =
+          let h = ltb-false k (hbits w) e in
+          let m : min k (hbits w) ≡ hbits w = omega arith in
+          ap (λ (j : ℕ). shr_z x (2 ^ j)) m ∙ right_far k h f
 
   -- the machine's shift to the right, of a number that was stored
   pub right_back : (k : ℕ) → SFits w x → to_z w (of_z w (shr_z (to_z w (of_z w x)) (2 ^ k))) ≡ shr_z x (2 ^ k)

@@ -7,7 +7,7 @@ use native.Mathlib.Omega.{arith}
 use lib.Dec.{eqb, ltb}
 use borrow.Author.Tests.{le-leb, lt-leb, lt-ltb, le-ltb, eqb-true, eqb-false, eq-eqb, ne_eqb, ltb-true, ltb-false}
 use lib.IntN.{ℤ, pos, ◌+ℤ◌, ◌*ℤ◌}
-use lib.ListN.{length, drop, set, length-set, length-append, get_or-append}
+use lib.ListN.{length, set, length-set, length-append, get_or-append}
 use lib.Seq.{get_or-append-add, get_or-set_same, get_or-set_other, ext_get_or}
 use mir.Syntax.{w16, w32}
 use mir.Val.{SFits}
@@ -54,10 +54,6 @@ module _ (l : List ℤ) where
   pub low_at : (k : ℕ) → at (zeros ++ l) (8 + k) ≡ at l k
   unfolding row
   low_at k = get_or-append-add zeros l k (pos 0)
-
-  pub low_drop : drop 8 (zeros ++ l) ≡ l
-  unfolding row
-  low_drop = refl
 
 -- ---- the coefficients after the order m
 module _ (vpar : List ℤ) where

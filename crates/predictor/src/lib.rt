@@ -9,7 +9,7 @@ ghost use Rattle.predictor.specs.StepUp as step;
 ghost use Rattle.predictor.specs.Filter as filter;
 
 use operations::{abs, add, div, l_add, l_mult, l_shl, l_shr, mult_r, norm, sub, topped};
-use rows::{lagged, lesser};
+use rows::lagged;
 
 // The autocorrelation of the predictor, and its scaling.
 #[derive(Clone, Copy)]
@@ -32,10 +32,7 @@ fn coefficient(p0: i16, p1: i16) -> i16
     ensures { result ≡ schur.coefficient_of p0 p1 }
 {
     let q = div(abs(p1), p0);
-    if p1 > 0 {
-        return sub(0, q);
-    }
-    q
+    if p1 > 0 { sub(0, q) } else { q }
 }
 
 // One update of the recursion.
@@ -46,6 +43,7 @@ fn turned(x: i16, y: i16, c: i16) -> i16
 }
 
 // The Schur recursion of an order up to 8. K is kept backwards, `k[m]` for the clause's K[9-m], so that its start is sacf, as that of P is.
+// The loops count, since a turn reads P one place further on than it stores, and they are left by a label where the clause exits.
 fn recursion(order: usize, sacf: [i16; 9]) -> [i16; 9]
     requires { order ≤ 8 }
     ensures { result ≡ schur.schur_of order sacf }
@@ -80,11 +78,7 @@ fn sacf(av1: [i32; 9]) -> [i16; 9]
     ensures { result ≡ row 9 (schur.sacf_of av1) }
 {
     let temp = norm(av1[0]);
-    let mut out = [0i16; 9];
-    for k in 0..9 {
-        out[k] = topped(av1[k], temp);
-    }
-    out
+    av1.map(|x| topped(x, temp))
 }
 
 // The reflection coefficients of an order, which is at most 8: a greater one is taken as 8.
@@ -94,7 +88,7 @@ pub fn reflection(order: usize, acf: [i32; 9]) -> [i16; 9]
     if acf[0] == 0 {
         return [0i16; 9];
     }
-    recursion(lesser(order, 8), sacf(acf))
+    recursion(order.min(8), sacf(acf))
 }
 
 // The reflection coefficients of the averages, by a call of its own of the recursion, for speed: the compiler then knows the order in each.
@@ -121,7 +115,8 @@ fn lifted(coef: i32, mirror: i32, v: i16) -> i32
     l_add(coef, l_mult(v, temp))
 }
 
-// The coefficients after the order m, from those after the order before. From the entry n on they are 0 and stay.
+// The coefficients after the order m, from those after the order before. From the entry n on they are 0 and stay. The loop counts, since an
+// entry is made from itself and from the one that mirrors it.
 fn raised(coef: [i32; 17], vpar: [i16; 9], m: usize, n: usize) -> [i32; 17]
     requires { (1 ≤ m) × (m < n) × (n ≤ 9) × (coef ≡ row 8 (λ i. pos 0) ++ step.l_coef_of vpar (m - 1)) }
     ensures { result ≡ row 8 (λ i. pos 0) ++ step.l_coef_of vpar m }
@@ -139,13 +134,20 @@ fn coefficients(vpar: [i16; 9]) -> [i32; 17]
 {
     let mut coef = [0i32; 17];
     coef[FIRST] = l_shl(16384, 15);
-    for m in 1..5 {
+    for m in 1..=4 {
         coef = raised(coef, vpar, m, 5);
     }
-    for m in 5..9 {
+    for m in 5..=8 {
         coef = raised(coef, vpar, m, 9);
     }
     coef
+}
+
+// A coefficient in 13 bits.
+fn narrowed(coef: i32) -> i16
+    ensures { result ≡ op.◌>>◌ coef (pos 19) }
+{
+    l_shr(coef, 19) as i16
 }
 
 // The predictor in 13 bits.
@@ -153,11 +155,7 @@ pub fn aav1(vpar: [i16; 9]) -> [i16; 9]
     ensures { result ≡ row 9 (step.aav1_of vpar) }
 {
     let coef = coefficients(vpar);
-    let mut out = [0i16; 9];
-    for i in 0..9 {
-        out[i] = l_shr(coef[FIRST + i], 19) as i16;
-    }
-    out
+    std::array::from_fn(|i| narrowed(coef[FIRST + i]))
 }
 
 // ---- 6.3.3
@@ -168,14 +166,8 @@ pub fn whitened(aav1: [i16; 9]) -> Filter
 {
     let work = lagged(aav1);
     let normrav1 = norm(work[0]);
-    let mut out = [0i16; 9];
-    for i in 0..9 {
-        out[i] = topped(work[i], normrav1);
-    }
-    Filter {
-        rav1: out,
-        normrav1: normrav1,
-    }
+    let rav1 = work.map(|x| topped(x, normrav1));
+    Filter { rav1, normrav1 }
 }
 
 // The filter that whitens the averages.

@@ -4,9 +4,11 @@ use mathlib.Core.Bool.{Bool, true, false, not, ◌&&◌, ◌||◌}
 use native.Mathlib.Omega.{arith}
 use lib.Dec.{T}
 use lib.IntN.{ℤ}
-use lib.Signed.{le_z, ◌≤ℤ◌}
+use lib.Signed.{lt_z, le_z, ◌≤ℤ◌}
+use Rattle.std.specs.Prelude.{Some}
+use Rattle.std.specs.Ordering.{is_some_and, is_le, int_cmp}
 use Rattle.rows.specs.Choice.{IF◌THEN◌ELSE◌, eqZ, within}
-use Rattle.numbers.proofs.Parts.{zarith, same, le_true, le_yes}
+use Rattle.numbers.proofs.Parts.{zarith, same, lt_yes, lt_no, le_true, le_false, le_yes}
 
 -- ---- both of two tests
 pub and_left : (a b : Bool) → a && b ≡ true → a ≡ true
@@ -82,3 +84,17 @@ within_ends lo hi z h =
     let a = and_left (le_z lo z) (le_z z hi) h in
     let b = and_right (le_z lo z) (le_z z hi) h in
     (omega zarith, omega zarith)
+
+-- the order that the library's comparisons compute, and its test of a range
+ordered : (x y : ℤ) → is_some_and is_le (Some (int_cmp x y)) ≡ le_z x y
+ordered x y =
+    either (is_some_and is_le (Some (int_cmp x y)) ≡ le_z x y) (lt_z x y)
+    (λ t. rw (t, le_true x y (omega (zarith, lt_yes x y t))))
+    (λ t.
+    either (is_some_and is_le (Some (int_cmp x y)) ≡ le_z x y) (lt_z y x)
+    (λ s. rw (t, s, le_false x y (omega (zarith, lt_yes y x s))))
+    (λ s. rw (t, s, le_true x y (omega (zarith, lt_no y x s)))))
+
+pub contained : (lo hi z : ℤ) → is_some_and is_le (Some (int_cmp lo z)) && is_some_and is_le (Some (int_cmp z hi)) ≡ within lo hi z
+unfolding within
+contained lo hi z = rw (ordered lo z, ordered z hi)

@@ -1,8 +1,8 @@
--- A row and itself at a lag: the front of the row against its back. Assumes nothing.
-use mathlib.Core.Path.{◌≡◌, ap, ap₂, ◌∙◌}
+-- A row and itself at a lag: the row against its back. Assumes nothing.
+use mathlib.Core.Path.{◌≡◌, refl, ap, ap₂, ◌∙◌}
 use mathlib.Core.List.{List}
-use Prim.Native.Nat.{ℕ, ◌+◌, ◌-◌, ◌<◌, ◌≤◌, min}
-use native.Mathlib.Nat.{add_comm, zero-add}
+use Prim.Native.Nat.{ℕ, ◌+◌, ◌-◌, ◌<◌, min}
+use native.Mathlib.Nat.{add_comm}
 use native.Mathlib.Omega.{arith}
 use lib.IntN.{ℤ, pos}
 use lib.ListN.{length, take, drop, length-take, length-drop}
@@ -12,28 +12,19 @@ use Rattle.operations.specs.Operations.{l_mult}
 use Rattle.rows.specs.Rows.{l_products, l_lagged}
 use Rattle.rows.proofs.Sum.{l_sum_ext}
 
-module _ (l : List ℤ) (i : ℕ) (nine : length l ≡ 9) (h : i ≤ 8) where
-  abbrev front : List ℤ
-  front = take 9 (drop 0 l)
-
+module _ (l : List ℤ) (i : ℕ) (nine : length l ≡ 9) (h : i < 9) where
   abbrev rear : List ℤ
   rear = take (9 - i) (drop i l)
-
-  front_at : (k : ℕ) → k < 9 - i → at front k ≡ at l k
-  front_at k u = get_or-take 9 (drop 0 l) k (pos 0) (omega arith) ∙ get_or-drop 0 l k (pos 0) ∙ ap (at l) (zero-add k)
 
   rear_at : (k : ℕ) → k < 9 - i → at rear k ≡ at l (k + i)
   rear_at k u = get_or-take (9 - i) (drop i l) k (pos 0) u ∙ get_or-drop i l k (pos 0) ∙ ap (at l) (add_comm i k)
 
-  front_length : length front ≡ 9
-  front_length = simp (length-take, length-drop) (omega arith)
-
   pub rear_length : length rear ≡ 9 - i
   rear_length = simp (length-take, length-drop) (omega arith)
 
-  count : min (length front) (length rear) ≡ 9 - i
-  count = omega (arith, front_length, rear_length)
+  count : min (length l) (length rear) ≡ 9 - i
+  count = omega (arith, rear_length)
 
-  pub products_lagged : l_products (take 9 (drop 0 l)) (take (9 - i) (drop i l)) ≡ l_lagged l i
+  pub products_lagged : l_products l rear ≡ l_lagged l i
   unfolding l_products l_lagged
-  products_lagged = rw (count, nine) (l_sum_ext (9 - i) _ _ (λ k u. ap₂ l_mult (front_at k u) (rear_at k u)))
+  products_lagged = rw (count, nine) (l_sum_ext (9 - i) _ _ (λ k u. ap₂ l_mult refl (rear_at k u)))

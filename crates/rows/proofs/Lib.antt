@@ -5,3 +5,4 @@ pub mod Sum
 pub mod Tail
 pub mod Plain
 pub mod Lag
+pub mod Made

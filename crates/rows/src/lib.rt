@@ -8,12 +8,13 @@ ghost use Rattle.rows.specs.Choice.{within};
 ghost use Rattle.rows.specs.Rows.{row, first_of, all, thirteen, product_sum, l_products, l_lagged};
 
 use operations::{l_add, l_mult, product};
+use std::array;
 
 // The lesser of two lengths.
 pub fn lesser(m: usize, n: usize) -> usize
     ensures { result ≡ min m n }
 {
-    if m < n { m } else { n }
+    m.min(n)
 }
 
 // ---- ranges
@@ -22,14 +23,14 @@ pub fn lesser(m: usize, n: usize) -> usize
 pub fn within(lo: i32, hi: i32, z: i32) -> bool
     ensures { result ≡ within lo hi z }
 {
-    (lo <= z) & (z <= hi)
+    (lo..=hi).contains(&z)
 }
 
 // The same of a 16-bit number.
 pub fn short_within(lo: i16, hi: i16, z: i16) -> bool
     ensures { result ≡ within lo hi z }
 {
-    (lo <= z) & (z <= hi)
+    (lo..=hi).contains(&z)
 }
 
 // Whether each number of a row is one of lo..hi. The loop never leaves, for speed: it is done many entries at a time.
@@ -37,60 +38,44 @@ pub fn all_within(lo: i32, hi: i32, a: &[i32]) -> bool
     ensures { result ≡ all (within lo hi) a.now }
 {
     let mut ok = true;
-    for k in 0..a.len() {
-        ok = ok & within(lo, hi, a[k]);
+    for z in a {
+        ok &= within(lo, hi, *z);
     }
     ok
 }
 
 // ---- lent rows, by value
 
-// The number at i of a row, 0 beyond its end.
-fn long_at(from: &[i32], i: usize) -> i32
-    ensures { result ≡ get_or from.now i (pos 0) }
+// The entry at i of a row, and z beyond its end.
+fn entry<T: Copy>(from: &[T], i: usize, z: T) -> T
+    ensures { result ≡ get_or from.now i z }
 {
-    if i < from.len() { from[i] } else { 0 }
-}
-
-// The lag at i of a row, 0 beyond its end.
-fn lag_at(from: &[u16], i: usize) -> u16
-    ensures { result ≡ get_or from.now i 0 }
-{
-    if i < from.len() { from[i] } else { 0 }
+    from.get(i).copied().unwrap_or(z)
 }
 
 // The first nine numbers of a lent row, by value.
 pub fn nine(from: &[i32]) -> [i32; 9]
     ensures { result ≡ first_of 9 (pos 0) from.now }
 {
-    let mut out = [0i32; 9];
-    for i in 0..9 {
-        out[i] = long_at(from, i);
-    }
-    out
+    array::from_fn(|i| entry(from, i, 0))
 }
 
 // The first four lags of a lent row, by value.
 pub fn four(from: &[u16]) -> [u16; 4]
     ensures { result ≡ first_of 4 0 from.now }
 {
-    [
-        lag_at(from, 0),
-        lag_at(from, 1),
-        lag_at(from, 2),
-        lag_at(from, 3),
-    ]
+    array::from_fn(|k| entry(from, k, 0))
 }
 
 // ---- running sums
 
-// Whether each number of a row has 13 bits.
+// Whether each number of a row has 13 bits. This loop never leaves either.
 fn narrow(a: &[i16]) -> bool
     ensures { result ≡ all thirteen a.now }
 {
     let mut ok = true;
-    for k in 0..a.len() {
-        ok = ok & short_within(-4096, 4095, a[k]);
+    for x in a {
+        ok &= short_within(-4096, 4095, *x);
     }
     ok
 }
@@ -102,10 +87,9 @@ fn exact(a: &[i16], b: &[i16]) -> i32
     ensures value { result ≡ product_sum a.now b.now }
     ensures by_index { (k : ℕ) → k < min (length a.now) (length b.now) → nat_abs (at a.now k) ≤ 2 ^ 15 }
 {
-    let n = lesser(a.len(), b.len());
-    let mut s: i32 = 0;
-    for k in 0..n {
-        s = s + product(a[k], b[k]);
+    let mut s = 0;
+    for (x, y) in a.iter().zip(b) {
+        s += product(*x, *y);
     }
     s
 }
@@ -114,10 +98,9 @@ fn exact(a: &[i16], b: &[i16]) -> i32
 fn clipped(a: &[i16], b: &[i16]) -> i32
     ensures { result ≡ l_products a.now b.now }
 {
-    let n = lesser(a.len(), b.len());
-    let mut s: i32 = 0;
-    for k in 0..n {
-        s = l_add(s, l_mult(a[k], b[k]));
+    let mut s = 0;
+    for (x, y) in a.iter().zip(b) {
+        s = l_add(s, l_mult(*x, *y));
     }
     s
 }
@@ -127,33 +110,30 @@ fn clipped(a: &[i16], b: &[i16]) -> i32
 pub fn products(a: &[i16], b: &[i16]) -> i32
     ensures { result ≡ l_products a.now b.now }
 {
-    if (b.len() <= 8) & narrow(b) {
+    if b.len() <= 8 && narrow(b) {
         let s = exact(a, b);
-        return l_add(s, s);
+        l_add(s, s)
+    } else {
+        clipped(a, b)
     }
-    clipped(a, b)
 }
 
-// The same of a second row of at most nine entries. If `small`, both rows are of 13 bits, and then no step can clip.
-fn lag_sum(small: bool, a: &[i16], b: &[i16]) -> i32
-    requires { (length b.now ≤ 9) × (small ≡ true → (all thirteen a.now ≡ true) × (all thirteen b.now ≡ true)) }
-    ensures { result ≡ l_products a.now b.now }
+// The sum of the doubled products of a row and itself, at the lag i. If `small`, the row is of 13 bits, and then no step can clip.
+fn lag_sum(small: bool, a: [i16; 9], i: usize) -> i32
+    requires { (i < 9) × (small ≡ true → all thirteen a ≡ true) }
+    ensures { result ≡ l_lagged a i }
 {
     if small {
-        return exact(a, b) * 2;
+        exact(&a, &a[i..]) * 2
+    } else {
+        clipped(&a, &a[i..])
     }
-    clipped(a, b)
 }
 
-// The sums of the doubled products of a row and itself, at each lag from 0 to 8. One test says whether any of them can clip.
+// These sums at each lag from 0 to 8. One test says whether any of them can clip.
 pub fn lagged(a: [i16; 9]) -> [i32; 9]
     ensures { result ≡ row 9 (l_lagged a) }
 {
-    let small = narrow(&a[0..9]);
-    let b = a;
-    let mut out = [0i32; 9];
-    for i in 0..9 {
-        out[i] = lag_sum(small, &a[0..9], &b[i..9]);
-    }
-    out
+    let small = narrow(&a);
+    array::from_fn(|i| lag_sum(small, a, i))
 }

@@ -1,69 +1,44 @@
 // Runs a trace: from standard input, or from the file that is named as the one argument, to the answers on standard output, four bytes a line.
 #![tactic(auto)]
 
-use files::Source;
+ghost use Rattle.std.proofs.Common.{rules};
+
+use files::{Failed, Input, Steps};
 use runner::Runner;
 
-// What a turn leaves: whether the input goes on, whether all answers could be written, and the run so far.
+// A run, and the room for the answers of a piece.
 #[derive(Drop)]
-struct Turned {
-    more: bool,
-    written: bool,
-    run: Runner,
+struct Run {
+    runner: Runner,
+    out: [u8; 65536],
 }
 
-// Reads once, feeds what came, and writes the answers.
-fn turn(
-    rt: HostRuntime,
-    source: &mut Source,
-    name: &[u8],
-    r: Runner,
-    piece: &mut [u8],
-    out: &mut [u8],
-) -> Turned {
-    let got = files::read(rt, source, name, piece);
-    let n = got.n;
-    let fed = runner::feed(r, &piece[..n], out);
-    let wrote = fed.wrote;
-    let next = fed.runner;
-    let written = files::write(rt, &out[..wrote]);
-    Turned {
-        more: got.more & written,
-        written,
-        run: next,
+impl Steps<16384> for Run {
+    type Stop = Failed;
+
+    // Feeds a piece, and writes the answers.
+    fn step(&mut self, rt: HostRuntime, piece: &[u8]) -> Result<(), Failed> {
+        let fed = runner::feed(self.runner, piece, &mut self.out);
+        self.runner = fed.player;
+        files::write(rt, &self.out[..fed.wrote])
     }
+
+    ghost fits_in_memory = { Prim.search rules };
 }
 
-// Runs the whole input. A proved loop has to end, and nothing says that the input does: the turns are counted down from a number that no run uses up.
-fn run(rt: HostRuntime, source: &mut Source, name: &[u8]) {
-    let mut piece = [0u8; 16384];
-    let mut out = [0u8; 65536];
-    let mut r = runner::start();
-    let mut turns = u64::MAX;
-    let mut more = true;
-    let mut written = true;
-    while turns > 0 && more {
-        let t = turn(rt, source, name, r, &mut piece, &mut out);
-        r = t.run;
-        more = t.more;
-        written = t.written;
-        turns -= 1;
-    }
-    if !written {
-        return;
-    }
-    let last = runner::finish(r);
-    let text = last.text;
-    let wrote = last.wrote;
-    files::write(rt, &text[..wrote]);
+// Answers the whole input. Where it can't be read on, what is carried is answered as at its end.
+fn answer(rt: HostRuntime) -> Result<(), Failed> {
+    let mut input = Input::open(rt, b"run_trace: one file at most\n")?;
+    let mut run = Run {
+        runner: runner::start(),
+        out: [0u8; 65536],
+    };
+    run.each(rt, &mut input)?;
+    let last = runner::finish(run.runner);
+    files::write(rt, &last.text[..last.wrote])
 }
 
+// What failed was named: the exit status says nothing.
 fn main(rt: HostRuntime) {
-    let input = files::open(rt, b"run_trace: one file at most\n");
-    let name = input.name;
-    let length = input.length;
-    if let Some(mut source) = input.source {
-        run(rt, &mut source, &name[..length]);
-        files::close(source);
-    }
+    let _written = answer(rt).is_ok();
 }

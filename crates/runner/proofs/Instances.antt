@@ -19,7 +19,7 @@ use Rattle.lines.specs.Line.{field_at, word_at, frame_of, formed_of}
 use Rattle.lines.specs.Answers.{ranges_of, refused_of, accepted_of, checked_of, decoded_of}
 use Rattle.lines.specs.Frames.{frame_in, frames_of}
 use Rattle.lines.specs.Worked as lines
-use Rattle.detector.specs.declared.Answer.{Answer}
+use Rattle.detector.specs.Answer.{Answer}
 use Rattle.detector.specs.Run.{accepted_from, flags_of, raws_of}
 use Rattle.detector.specs.Sentence as detector
 use Rattle.detector.specs.Worked.{loud, quiet, Answered, table}

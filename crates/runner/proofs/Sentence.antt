@@ -21,7 +21,7 @@ use Rattle.lines.specs.Frames.{frame_in, frames_of}
 use Rattle.lines.proofs.Answers.{accepted_formed}
 use Rattle.lines.proofs.Whole.{formed_line}
 use Rattle.lines.proofs.Frames.{frames_yes, frames_no}
-use Rattle.detector.specs.declared.Answer.{Answer}
+use Rattle.detector.specs.Answer.{Answer}
 use Rattle.detector.specs.Run.{answer_to, accepted_from, flags_of, raws_of}
 use Rattle.detector.specs.Sentence as detector
 use Rattle.detector.proofs.Run.{accepted_more, refused_more, as_given}

@@ -6,7 +6,7 @@ use Rattle.rows.specs.Choice.{IF◌THEN◌ELSE◌}
 use Rattle.counts.specs.declared.Reply.{Reply}
 use Rattle.lines.specs.Answers.{decoded_of}
 use Rattle.state.specs.declared.State.{State}
-use Rattle.detector.specs.declared.Answer.{Answer}
+use Rattle.detector.specs.Answer.{Answer}
 use Rattle.detector.specs.Step.{step_of}
 use Rattle.runner.specs.declared.Said.{Said}
 

@@ -1,48 +1,33 @@
 // Runs a trace piece by piece: what is unfinished is carried by value.
 #![tactic(auto)]
 
-ghost use Rattle.std.specs.Prelude.{◌≡◌, ◌+◌, ◌*◌, ◌≤◌, length};
-ghost use Rattle.pieces.specs.Lines.{lines_of};
-ghost use Rattle.pieces.specs.Put.{put_of};
+ghost use Rattle.std.specs.Prelude.{◌≡◌, length};
+ghost use Rattle.detector.specs.Result.{answer_of};
 ghost use Rattle.runner.specs.Said as one;
-ghost use Rattle.runner.specs.Run as run;
+ghost use Rattle.runner.specs.Hears as line;
 ghost use Rattle.runner.specs.Fed as piece;
+ghost use Rattle.runner.specs.Laws as law;
 
 use counts::Reply;
-use pieces::Finder;
+use detector::{Accepted, Refused};
+use player::{Hearer, Player};
 use state::State;
 
 // The bytes of an answer: its three characters and a line feed.
 const ANSWER: usize = 4;
 
-// A run between two pieces: the detector and the unfinished line.
+// The detector as it hears the lines of a trace.
 #[derive(Clone, Copy)]
-pub struct Runner {
+pub struct Uplink {
     pub state: State,
-    pub finder: Finder,
 }
 
-// What some lines leave: the state, and where the next answer is written.
-#[derive(Clone, Copy)]
-pub struct Ran {
-    pub state: State,
-    pub wrote: usize,
-}
+// A run between two pieces, what a piece is answered, and what the end of the input gives.
+pub type Runner = Player<Uplink>;
 
-// What a piece is answered: its refusal number, how many bytes of the output are written, and the runner for the next piece.
-#[derive(Clone, Copy)]
-pub struct Fed {
-    pub refusal: u8,
-    pub wrote: usize,
-    pub runner: Runner,
-}
+pub type Fed = player::Fed<Uplink>;
 
-// What the end of the input gives: the first `wrote` bytes of `text`.
-#[derive(Clone, Copy)]
-pub struct Last {
-    pub wrote: usize,
-    pub text: [u8; ANSWER],
-}
+pub type Last = player::Last<ANSWER>;
 
 // What a line is answered, and the state for the next one.
 #[derive(Clone, Copy)]
@@ -53,30 +38,44 @@ pub struct Said {
 
 // ---- one line
 
+// A line that is refused.
+fn denied(refusal: u8, s: State) -> Said
+    ensures { result ≡ one.denied_of refusal s }
+{
+    Said {
+        reply: Reply {
+            refusal,
+            vad: false,
+            vvad: false,
+        },
+        next: s,
+    }
+}
+
+// A line whose frame went to the detector.
+pub fn stepped(r: Result<Accepted, Refused>) -> Said
+    ensures { result ≡ one.stepped_of (answer_of r) }
+{
+    match r {
+        Ok(a) => Said {
+            reply: Reply {
+                refusal: 0,
+                vad: a.vad,
+                vvad: a.vvad,
+            },
+            next: a.next,
+        },
+        Err(r) => denied(r.refusal.number(), r.state),
+    }
+}
+
 // What a line, with its line feed, is answered.
 pub fn answer(s: State, line: &[u8]) -> Said
     ensures { result ≡ one.said_of s line.now }
 {
     match lines::decode(line) {
-        Ok(frame) => {
-            let r = detector::step(&frame.acf, &frame.lags, frame.scale, s);
-            Said {
-                reply: Reply {
-                    refusal: r.refusal,
-                    vad: r.vad,
-                    vvad: r.vvad,
-                },
-                next: r.next,
-            }
-        }
-        Err(refusal) => Said {
-            reply: Reply {
-                refusal: refusal.number(),
-                vad: false,
-                vvad: false,
-            },
-            next: s,
-        },
+        Ok(frame) => stepped(detector::step(&frame.acf, &frame.lags, frame.scale, s)),
+        Err(refusal) => denied(refusal.number(), s),
     }
 }
 
@@ -110,37 +109,38 @@ pub fn text(r: Reply) -> [u8; ANSWER]
     [n, a, b, 10]
 }
 
-// ---- a run in pieces
+impl Hearer for Uplink {
+    const MOST: usize = ANSWER;
 
-// Answers the lines of an input; the answers are written from `at` on.
-fn run(s: State, input: &[u8], out: &mut [u8], at: usize) -> Ran
-    requires { at + one.answer_bytes * length (lines_of input.now) ≤ length out.old }
-    ensures value { result ≡ piece.ran_of s input.now at }
-    ensures out_after { out.new ≡ put_of out.old at (run.answers_of s (lines_of input.now)) }
-{
-    let mut state = s;
-    let mut wrote = at;
-    let mut i: usize = 0;
-    while i < input.len() {
-        let to = pieces::line_end(input, i);
-        let a = answer(state, &input[i..to]);
-        let reply = a.reply;
-        let t = text(reply);
-        pieces::put(out, wrote, &t);
-        wrote += ANSWER;
-        state = a.next;
-        i = to;
+    ghost MOST = { one.answer_bytes };
+
+    ghost next = { line.next_of };
+
+    ghost text = { line.text_of };
+
+    fn hear(&mut self, _block: &[u8], line: &[u8], out: &mut [u8], at: usize) -> usize {
+        let said = answer(self.state, line);
+        self.state = said.next;
+        pieces::put(out, at, &text(said.reply));
+        at + ANSWER
     }
-    Ran { state, wrote }
+
+    ghost most = { law.text_most };
+
+    ghost short_next = { law.short_next };
+
+    ghost short_text = { law.short_text };
 }
+
+// ---- a run in pieces
 
 // A run before its first piece.
 pub fn start() -> Runner
     ensures { result ≡ piece.start_of }
 {
-    let state = State::reset();
-    let finder = pieces::start();
-    Runner { state, finder }
+    player::start(Uplink {
+        state: State::reset(),
+    })
 }
 
 // Feeds a piece of the input; `out` has four bytes for each byte of the piece.
@@ -148,51 +148,17 @@ pub fn feed(r: Runner, input: &[u8], out: &mut [u8]) -> Fed
     ensures value { result ≡ piece.fed_of r input.now (length out.old) }
     ensures out_after { out.new ≡ piece.out_after r input.now out.old }
 {
-    if out.len() / ANSWER < input.len() {
-        return Fed {
-            refusal: 1,
-            wrote: 0,
-            runner: r,
-        };
-    }
-    let state = r.state;
-    let finder = r.finder;
-    let c = pieces::cut(finder, input);
-    let head = c.head;
-    let n = c.n;
-    let a = run(state, &head[..n], out, 0);
-    let from = c.from;
-    let to = c.to;
-    let middle = a.state;
-    let b = run(middle, &input[from..to], out, a.wrote);
-    let next = b.state;
-    let rest = c.rest;
-    Fed {
-        refusal: 0,
-        wrote: b.wrote,
-        runner: Runner {
-            state: next,
-            finder: rest,
-        },
-    }
+    player::feed(r, input, &[], out)
 }
 
-// The end of the input: what is carried is a line too.
+// The end of the input: what is carried is a line too, and malformed.
 pub fn finish(r: Runner) -> Last
     ensures { result ≡ piece.finish_of r }
 {
-    let finder = r.finder;
-    let state = r.state;
-    let n = pieces::held(finder);
-    let line = finder.line;
-    let a = answer(state, &line[..n]);
-    let reply = a.reply;
-    let t = text(reply);
-    if n == 0 {
-        return Last { wrote: 0, text: t };
-    }
-    Last {
-        wrote: ANSWER,
-        text: t,
-    }
+    let malformed = text(Reply {
+        refusal: 6,
+        vad: false,
+        vvad: false,
+    });
+    player::finish(r, malformed)
 }

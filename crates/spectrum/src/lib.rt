@@ -23,11 +23,7 @@ fn sav0(av0: [i32; 9]) -> [i16; 9]
         return [4095i16; 9];
     }
     let shift = sub(norm(av0[0]), 3);
-    let mut out = [0i16; 9];
-    for i in 0..9 {
-        out[i] = topped(av0[i], shift);
-    }
-    out
+    av0.map(|x| topped(x, shift))
 }
 
 // The doubled quotient.
@@ -35,9 +31,9 @@ fn quotient(temp: i16, first: i16) -> i32
     ensures { result ≡ clause.quotient_of temp first }
 {
     if temp <= first {
-        return l_shl(l_add(0, div(temp, first) as i32), 1);
+        return l_shl(l_add(0, i32::from(div(temp, first))), 1);
     }
-    l_shl(l_add(32768, div(sub(temp, first), first) as i32), 1)
+    l_shl(l_add(32768, i32::from(div(sub(temp, first), first))), 1)
 }
 
 // The sum, whose magnitude is size, over the first entry.
@@ -46,10 +42,7 @@ fn divided(sum: i32, size: i32, first: i16) -> i32
 {
     let temp = topped(size, norm(size));
     let dm = quotient(temp, shl(first, 3));
-    if sum < 0 {
-        return l_sub(0, dm);
-    }
-    dm
+    if sum < 0 { l_sub(0, dm) } else { dm }
 }
 
 // The distance measure, from the quotient and its shift.
@@ -57,7 +50,7 @@ fn measured(dm: i32, shift: i16, first: i16, normrav1: i16) -> i32
     ensures { result ≡ clause.measured_of dm shift first normrav1 }
 {
     l_shr(
-        l_add(l_shr(l_shl(dm, 14), shift), l_shl(first as i32, 11)),
+        l_add(l_shr(l_shl(dm, 14), shift), l_shl(i32::from(first), 11)),
         normrav1,
     )
 }
@@ -67,7 +60,7 @@ fn dm(av0: [i32; 9], rav1: [i16; 9], normrav1: i16) -> i32
     ensures { result ≡ clause.l_dm_of av0 rav1 normrav1 }
 {
     let s = sav0(av0);
-    let sum = products(&rav1[1..9], &s[1..9]);
+    let sum = products(&rav1[1..], &s[1..]);
     let size = l_abs(sum);
     if size == 0 {
         return measured(0, 0, rav1[0], normrav1);
@@ -79,9 +72,9 @@ fn dm(av0: [i32; 9], rav1: [i16; 9], normrav1: i16) -> i32
 pub fn compare(av0: [i32; 9], rav1: [i16; 9], normrav1: i16, lastdm: i32) -> Compared
     ensures { result ≡ clause.compare_of av0 rav1 normrav1 lastdm }
 {
-    let d = dm(av0, rav1, normrav1);
+    let dm = dm(av0, rav1, normrav1);
     Compared {
-        dm: d,
-        stat: l_sub(l_abs(l_sub(d, lastdm)), 3277) < 0,
+        dm,
+        stat: l_sub(l_abs(l_sub(dm, lastdm)), 3277) < 0,
     }
 }

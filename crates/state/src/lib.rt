@@ -42,9 +42,9 @@ impl State {
         State {
             rvad: [24576, -16384, 4096, 0, 0, 0, 0, 0, 0],
             normrvad: 7,
-            sacf: [0i32; 27],
+            sacf: [0; 27],
             ptsacf: 0,
-            sav0: [0i32; 36],
+            sav0: [0; 36],
             ptsav0: 0,
             lastdm: 0,
             thvad: Pair { e: 20, m: 31250 },
@@ -62,52 +62,35 @@ impl State {
 // ---- validity
 
 // Whether a pointer names a frame of its history.
+#[tactic(auto, unfolding(crate::specs::Valid::pointer_ok))]
 fn pointer_ok(last: usize, pt: usize) -> bool
     ensures { result ≡ valid.pointer_ok last pt }
 {
-    if pt <= last {
-        return pt % 9 == 0;
-    }
-    false
+    pt <= last && pt % 9 == 0
 }
 
 // Whether each entry of the three frames is in its range.
+#[tactic(auto, unfolding(crate::specs::Valid::sacf_within))]
 fn sacf_within(sacf: [i32; 27]) -> bool
     ensures { result ≡ valid.sacf_within sacf }
 {
-    all_within(-536870912, 536870911, &sacf[0..27])
+    all_within(-536870912, 536870911, &sacf)
 }
 
 // Whether the three frames are valid.
+#[tactic(auto, unfolding(crate::specs::Valid::sacf_ok))]
 fn sacf_ok(sacf: [i32; 27]) -> bool
     ensures { result ≡ valid.sacf_ok sacf }
 {
-    if sacf[0] < 0 {
-        return false;
-    }
-    if sacf[9] < 0 {
-        return false;
-    }
-    if sacf[18] < 0 {
-        return false;
-    }
-    sacf_within(sacf)
+    sacf[0] >= 0 && sacf[9] >= 0 && sacf[18] >= 0 && sacf_within(sacf)
 }
 
 // Whether the four averages are valid.
+#[tactic(auto, unfolding(crate::specs::Valid::sav0_ok))]
 fn sav0_ok(sav0: [i32; 36]) -> bool
     ensures { result ≡ valid.sav0_ok sav0 }
 {
-    if sav0[0] < 0 {
-        return false;
-    }
-    if sav0[9] < 0 {
-        return false;
-    }
-    if sav0[18] < 0 {
-        return false;
-    }
-    sav0[27] >= 0
+    sav0[0] >= 0 && sav0[9] >= 0 && sav0[18] >= 0 && sav0[27] >= 0
 }
 
 // The sum of the magnitudes of the later filter coefficients.
@@ -115,83 +98,52 @@ fn weight(rvad: [i16; 9]) -> u32
     ensures { result ≡ valid.weight_of rvad }
 {
     let mut sum: u32 = 0;
-    for k in 0..8 {
-        sum += magnitude(rvad[k + 1] as i32);
+    for x in &rvad[1..] {
+        sum += magnitude(i32::from(*x));
     }
     sum
 }
 
 // Whether the filter is valid.
+#[tactic(auto, unfolding(crate::specs::Valid::rvad_ok))]
 fn rvad_ok(rvad: [i16; 9]) -> bool
     ensures { result ≡ valid.rvad_ok rvad }
 {
     let first = rvad[0];
-    if short_within(16384, 32767, first) {
-        return weight(rvad) <= 4 * magnitude(first as i32) + 11;
-    }
-    false
+    short_within(16384, 32767, first) && weight(rvad) <= 4 * magnitude(i32::from(first)) + 11
 }
 
 // Whether the threshold is valid.
+#[tactic(auto, unfolding(crate::specs::Valid::thvad_ok))]
 fn thvad_ok(thvad: Pair) -> bool
     ensures { result ≡ valid.thvad_ok thvad }
 {
-    if short_within(16384, 32767, thvad.m) {
-        return short_within(-32, 64, thvad.e);
-    }
-    false
+    short_within(16384, 32767, thvad.m) && short_within(-32, 64, thvad.e)
 }
 
 // Whether the counts and the last lag are valid.
 fn counts_ok(s: State) -> bool
     ensures { result ≡ valid.counts_ok s }
 {
-    if !short_within(0, 9, s.adaptcount) {
-        return false;
-    }
-    if !short_within(0, 3, s.burstcount) {
-        return false;
-    }
-    if !short_within(-1, 5, s.hangcount) {
-        return false;
-    }
-    if !short_within(0, 4, s.oldlagcount) {
-        return false;
-    }
-    if !short_within(0, 4, s.veryoldlagcount) {
-        return false;
-    }
-    lag_ok(s.oldlag)
+    short_within(0, 9, s.adaptcount)
+        && short_within(0, 3, s.burstcount)
+        && short_within(-1, 5, s.hangcount)
+        && short_within(0, 4, s.oldlagcount)
+        && short_within(0, 4, s.veryoldlagcount)
+        && lag_ok(s.oldlag)
 }
 
 // Whether a state is valid.
+#[tactic(auto, unfolding(crate::specs::Valid::valid_of))]
 pub fn state_ok(s: State) -> bool
     ensures { result ≡ valid.valid_of s }
 {
-    if !pointer_ok(LAST_SACF, s.ptsacf) {
-        return false;
-    }
-    if !pointer_ok(LAST_SAV0, s.ptsav0) {
-        return false;
-    }
-    let sacf = s.sacf;
-    if !sacf_ok(sacf) {
-        return false;
-    }
-    let sav0 = s.sav0;
-    if !sav0_ok(sav0) {
-        return false;
-    }
-    let rvad = s.rvad;
-    if !rvad_ok(rvad) {
-        return false;
-    }
-    if !short_within(2, 9, s.normrvad) {
-        return false;
-    }
-    let thvad = s.thvad;
-    if !thvad_ok(thvad) {
-        return false;
-    }
-    counts_ok(s)
+    pointer_ok(LAST_SACF, s.ptsacf)
+        && pointer_ok(LAST_SAV0, s.ptsav0)
+        && sacf_ok(s.sacf)
+        && sav0_ok(s.sav0)
+        && rvad_ok(s.rvad)
+        && short_within(2, 9, s.normrvad)
+        && thvad_ok(s.thvad)
+        && counts_ok(s)
 }

@@ -6,40 +6,21 @@ use Prim.Native.Nat.{ℕ, zero, suc, ◌+◌, ◌-◌, ◌*◌, ◌/◌, ◌%◌
 use native.Mathlib.Omega.{arith}
 use native.Mathlib.Nat.{pow-suc}
 use native.Mathlib.Numerals.{add-one}
-use borrow.Author.Tests.{lt-ltb, le-ltb, ltb-true, ltb-false}
+use borrow.Author.Tests.{le-ltb, ltb-true, ltb-false}
 use lib.Dec.{ltb}
-use lib.ListN.{length, get_or, drop, set, length-append, length-set}
+use lib.ListN.{length, get_or, drop, set, length-set}
 use lib.Seq.{drop-cons, drop-set-lt, get_or-set_same}
-use Rattle.rows.proofs.Choice.{by_test, by_yes, by_no, either}
+use Rattle.rows.proofs.Choice.{by_test, by_no, either}
 use Rattle.teller.specs.Decimal.{decimal_from, decimal_of, read_from, read_of}
+use Rattle.teller.specs.Laws.{decimal_one, decimal_digit}
 
--- ---- one digit, or one more
+-- ---- one digit more
 module _ (k n : ℕ) where
-  pub decimal_one : n < 10 → decimal_from (suc k) n ≡ (48 + n) ∷ []
-  unfolding decimal_from
-  decimal_one h = by_yes _ _ (lt-ltb n 10 h)
-
   pub decimal_more : 10 ≤ n → decimal_from (suc k) n ≡ decimal_from k (n / 10) ++ ((48 + n % 10) ∷ [])
   unfolding decimal_from
   decimal_more h = by_no _ _ (le-ltb n 10 h)
 
--- ---- at most k
-pub decimal_most : (k n : ℕ) → length (decimal_from k n) ≤ k
-unfolding decimal_from
-decimal_most zero n = omega arith
-decimal_most (suc k) n =
-    by_test (λ (l : List ℕ). length l ≤ suc k) (ltb n 10) _ _
-    (λ t. omega arith)
-    (λ t. simp length-append (omega (arith, decimal_most k (n / 10))))
-
-pub decimal_ten : (n : ℕ) → length (decimal_of n) ≤ 10
-unfolding decimal_of
-decimal_ten n = decimal_most 10 n
-
-pub decimal_digit : (n : ℕ) → n < 10 → decimal_of n ≡ (48 + n) ∷ []
-unfolding decimal_of
-decimal_digit n h = decimal_one 9 n h
-
+-- ---- none
 pub decimal_zero : decimal_of 0 ≡ 48 ∷ []
 decimal_zero = decimal_digit 0 (omega arith)
 

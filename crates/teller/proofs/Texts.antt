@@ -1,32 +1,12 @@
 -- The texts of a line, word by word, as they are put: there is room for each, and together they are the line's. Assumes nothing.
-use mathlib.Core.Path.{◌≡◌, ap}
-use mathlib.Core.List.{List, [], ◌∷◌, ◌++◌, append-nil}
+use mathlib.Core.List.{List, [], ◌∷◌, ◌++◌}
 use Prim.Native.Nat.{ℕ, ◌+◌, ◌≤◌}
-use lib.IntN.{ℤ, nat_abs}
 use lib.ListN.{length}
-use Rattle.threshold.specs.declared.Way.{Way}
-use Rattle.why.specs.declared.Flag.{Flag}
 use Rattle.why.specs.declared.Reasons.{Reasons}
 use Rattle.why.specs.declared.Why.{Why}
-use Rattle.why.specs.Fits.{flag_case, way_case}
 use Rattle.teller.specs.Decimal.{decimal_of}
-use Rattle.teller.specs.Words.{refused, flag_word, way_word, values_text, flag_text, way_text, reasons_text, text_of}
+use Rattle.teller.specs.Words.{refused, flag_text, way_text, reasons_text, text_of}
 use Rattle.teller.proofs.Puts.{Puts, room_first, room_second, puts_both}
-
--- ---- the two cases that carry a number: the word and its blank, then the number
-abbrev pub hangover : List ℕ
-hangover = 104 ∷ 97 ∷ 110 ∷ 103 ∷ 111 ∷ 118 ∷ 101 ∷ 114 ∷ 32 ∷ []
-
-pub hangover_text : (n : ℕ) → flag_text (Flag.Hangover n) ≡ hangover ++ decimal_of n
-unfolding flag_text flag_word flag_case values_text
-hangover_text n = ap (λ (x : List ℕ). hangover ++ x) (append-nil (decimal_of n))
-
-abbrev pub waiting : List ℕ
-waiting = 119 ∷ 97 ∷ 105 ∷ 116 ∷ 105 ∷ 110 ∷ 103 ∷ 32 ∷ []
-
-pub waiting_text : (k : ℤ) → way_text (Way.Waiting k) ≡ waiting ++ decimal_of (nat_abs k)
-unfolding way_text way_word way_case values_text
-waiting_text k = ap (λ (x : List ℕ). waiting ++ x) (append-nil (decimal_of (nat_abs k)))
 
 -- ---- a whole line
 abbrev blank : List ℕ

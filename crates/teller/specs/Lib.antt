@@ -2,4 +2,5 @@ pub mod Decimal
 pub mod Words
 pub mod Run
 pub mod Frames
+pub mod Laws
 pub mod Fed

@@ -10,7 +10,7 @@ use Rattle.pieces.specs.Pieces.{state_after, text_after}
 use Rattle.samples.specs.Samples.{sof_of}
 use Rattle.samples.specs.Beside.{Beside, next_beside, text_beside}
 use Rattle.why.specs.declared.Why.{Why}
-use Rattle.why.specs.declared.Explained.{Explained}
+use Rattle.why.specs.Explained.{Explained}
 use Rattle.why.specs.Explain as why
 use Rattle.why.specs.Explain.{explained_for}
 use Rattle.teller.specs.declared.Hearing.{Hearing}

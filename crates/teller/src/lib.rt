@@ -1,18 +1,20 @@
 // Tells, line by line, why each frame of a trace was sent or not: the lines of a trace that comes in pieces, each answered in words.
 #![tactic(auto)]
 
-ghost use Rattle.std.specs.Prelude.{◌≡◌, ◌+◌, ◌*◌, ◌≤◌, length, drop};
-ghost use Rattle.pieces.specs.Lines.{lines_of};
+ghost use Rattle.std.specs.Prelude.{◌≡◌, ◌+◌, ◌≤◌, length, drop};
 ghost use Rattle.pieces.specs.Put.{put_of};
+ghost use Rattle.why.specs.Result.{explained_in};
 ghost use Rattle.teller.specs.Words as words;
 ghost use Rattle.teller.specs.Decimal.{decimal_of};
 ghost use Rattle.teller.specs.Run as run;
+ghost use Rattle.teller.specs.Laws as law;
 ghost use Rattle.teller.specs.Fed as piece;
 
+use frames::Direction;
 use operations::magnitude;
-use pieces::Finder;
+use player::{Hearer, Player};
 use threshold::Way;
-use why::{Explainer, Flag, Why};
+use why::{Denied, Explained, Explainer, Flag, Why};
 
 // The most bytes that a line is told in: 4294967295 hangover 4294967295 waiting 8, and a line feed.
 const MOST: usize = 41;
@@ -27,41 +29,18 @@ pub struct Hearing {
     pub explainer: Explainer,
 }
 
-// A trace so far: the run, and the unfinished line.
-#[derive(Clone, Copy)]
-pub struct Teller {
-    pub hearing: Hearing,
-    pub finder: Finder,
-}
+// A trace so far, what a piece is told, and what the end of the input gives.
+pub type Teller = Player<Hearing>;
+
+pub type Fed = player::Fed<Hearing>;
+
+pub type Last = player::Last<CUT>;
 
 // Why a line's frame was sent or not, and the run after it.
 #[derive(Clone, Copy)]
 pub struct Told {
     pub why: Why,
     pub next: Hearing,
-}
-
-// What some lines leave: the run, how many bytes of the samples they took, and where the next text is written.
-#[derive(Clone, Copy)]
-pub struct Ran {
-    pub hearing: Hearing,
-    pub used: usize,
-    pub wrote: usize,
-}
-
-// What a piece is answered: its refusal number, how many bytes of the output are written, and the trace so far.
-#[derive(Clone, Copy)]
-pub struct Fed {
-    pub refusal: u8,
-    pub wrote: usize,
-    pub teller: Teller,
-}
-
-// What the end of the input gives: the first `wrote` bytes of `text`.
-#[derive(Clone, Copy)]
-pub struct Last {
-    pub wrote: usize,
-    pub text: [u8; CUT],
 }
 
 // A number in decimal: its digits are those of `text` from `from` on.
@@ -73,6 +52,28 @@ struct Written {
 
 // ---- one line
 
+// What the explainer's result tells, and the run after it.
+fn sent(downlink: bool, r: Result<Explained, Denied>) -> Told
+    ensures { result ≡ run.sent_of downlink (explained_in r) }
+{
+    match r {
+        Ok(x) => Told {
+            why: Why::Because(x.reasons),
+            next: Hearing {
+                downlink,
+                explainer: x.next,
+            },
+        },
+        Err(d) => Told {
+            why: Why::Refused(d.refusal.number()),
+            next: Hearing {
+                downlink,
+                explainer: d.explainer,
+            },
+        },
+    }
+}
+
 // Explains the frame of a line, with its line feed; `block` are the bytes of its samples.
 pub fn tell(h: Hearing, block: &[u8], line: &[u8]) -> Told
     ensures { result ≡ run.told_of h block.now line.now }
@@ -80,21 +81,16 @@ pub fn tell(h: Hearing, block: &[u8], line: &[u8]) -> Told
     match lines::decode(line) {
         Ok(frame) => {
             let heard = samples::read(block);
-            let r = why::explain(
+            let sof = heard.sof;
+            let direction = if h.downlink {
+                Direction::Downlink(&sof[..heard.count])
+            } else {
+                Direction::Uplink
+            };
+            sent(
                 h.downlink,
-                h.explainer,
-                &frame.acf,
-                &frame.lags,
-                frame.scale,
-                &heard.sof[..heard.count],
-            );
-            Told {
-                why: r.why,
-                next: Hearing {
-                    downlink: h.downlink,
-                    explainer: r.next,
-                },
-            }
+                why::explain(direction, h.explainer, &frame.acf, &frame.lags, frame.scale),
+            )
         }
         Err(refusal) => Told {
             why: Why::Refused(refusal.number()),
@@ -203,48 +199,38 @@ fn text(out: &mut [u8], at: usize, why: Why) -> usize
     }
 }
 
-// ---- a trace in pieces
+impl Hearer for Hearing {
+    const MOST: usize = MOST;
 
-// Tells the lines of an input, with 320 bytes of the samples for each; the texts are written from `at` on.
-fn run(h: Hearing, input: &[u8], samples: &[u8], out: &mut [u8], at: usize) -> Ran
-    requires { at + words.most * length (lines_of input.now) ≤ length out.old }
-    ensures value { result ≡ piece.ran_of h samples.now input.now at }
-    ensures out_after { out.new ≡ put_of out.old at (run.texts_of (record { state = h; left = samples.now }) (lines_of input.now)) }
-{
-    let mut hearing = h;
-    let mut used: usize = 0;
-    let mut wrote = at;
-    let mut i: usize = 0;
-    while i < input.len() {
-        let to = pieces::line_end(input, i);
-        let end = samples::frame_end(samples, used);
-        let t = tell(hearing, &samples[used..end], &input[i..to]);
-        let why = t.why;
-        wrote = text(out, wrote, why);
-        hearing = t.next;
-        used = end;
-        i = to;
+    ghost MOST = { words.most };
+
+    ghost next = { run.next_of };
+
+    ghost text = { run.line_text };
+
+    fn hear(&mut self, block: &[u8], line: &[u8], out: &mut [u8], at: usize) -> usize {
+        let told = tell(*self, block, line);
+        *self = told.next;
+        text(out, at, told.why)
     }
-    Ran {
-        hearing,
-        used,
-        wrote,
-    }
+
+    ghost most = { law.line_most };
+
+    ghost short_next = { law.short_next };
+
+    ghost short_text = { law.short_text };
 }
+
+// ---- a trace in pieces
 
 // A trace before its first piece.
 pub fn start(downlink: bool) -> Teller
     ensures { result ≡ piece.start_of downlink }
 {
-    let explainer = why::start();
-    let finder = pieces::start();
-    Teller {
-        hearing: Hearing {
-            downlink,
-            explainer,
-        },
-        finder,
-    }
+    player::start(Hearing {
+        downlink,
+        explainer: why::start(),
+    })
 }
 
 // Feeds a piece of the trace and the samples of the lines that end in it; `out` has 41 bytes for each byte of the piece.
@@ -252,44 +238,12 @@ pub fn feed(t: Teller, input: &[u8], samples: &[u8], out: &mut [u8]) -> Fed
     ensures value { result ≡ piece.fed_of t input.now samples.now (length out.old) }
     ensures out_after { out.new ≡ piece.out_after t input.now samples.now out.old }
 {
-    if out.len() / MOST < input.len() {
-        return Fed {
-            refusal: 1,
-            wrote: 0,
-            teller: t,
-        };
-    }
-    let hearing = t.hearing;
-    let finder = t.finder;
-    let c = pieces::cut(finder, input);
-    let head = c.head;
-    let n = c.n;
-    let a = run(hearing, &head[..n], samples, out, 0);
-    let from = c.from;
-    let to = c.to;
-    let used = a.used;
-    let middle = a.hearing;
-    let b = run(middle, &input[from..to], &samples[used..], out, a.wrote);
-    let next = b.hearing;
-    let rest = c.rest;
-    Fed {
-        refusal: 0,
-        wrote: b.wrote,
-        teller: Teller {
-            hearing: next,
-            finder: rest,
-        },
-    }
+    player::feed(t, input, samples, out)
 }
 
 // The end of the trace: what is carried has no line feed, and is refused with 6.
 pub fn finish(t: Teller) -> Last
     ensures { result ≡ piece.finish_of t }
 {
-    let finder = t.finder;
-    let text = [b'r', b'e', b'f', b'u', b's', b'e', b'd', b' ', b'6', b'\n'];
-    if pieces::held(finder) == 0 {
-        return Last { wrote: 0, text };
-    }
-    Last { wrote: CUT, text }
+    player::finish(t, *b"refused 6\n")
 }

@@ -7,18 +7,14 @@ ghost use Rattle.threshold.specs.Ways.{way_taken};
 
 use operations::{add, l_add, l_shr, shl, short, shr, sub};
 use pairs::{Pair, greater};
+use std::cmp::Ordering;
 
-const E_PTH: i16 = 19;
+// Table 3.2.
+const PTH: Pair = Pair { e: 19, m: 18750 };
 
-const M_PTH: i16 = 18750;
+const MARGIN: Pair = Pair { e: 27, m: 19531 };
 
-const E_MARGIN: i16 = 27;
-
-const M_MARGIN: i16 = 19531;
-
-const E_PLEV: i16 = 20;
-
-const M_PLEV: i16 = 25000;
+const PLEV: Pair = Pair { e: 20, m: 25000 };
 
 // What the clause keeps from frame to frame.
 #[derive(Clone, Copy)]
@@ -50,7 +46,7 @@ fn fitted(e: i16, x: i32) -> Pair
             m: short(l_shr(x, 1)),
         };
     }
-    Pair { e: e, m: short(x) }
+    Pair { e, m: short(x) }
 }
 
 // Less a 32nd.
@@ -64,14 +60,14 @@ fn lowered(thvad: Pair) -> Pair
             m: shl(m, 1),
         };
     }
-    Pair { e: thvad.e, m: m }
+    Pair { e: thvad.e, m }
 }
 
 // Three times pvad.
 fn tripled(pvad: Pair) -> Pair
     ensures { result ≡ clause.tripled_of pvad }
 {
-    let m = pvad.m as i32;
+    let m = i32::from(pvad.m);
     fitted(add(pvad.e, 1), l_shr(l_add(l_add(m, m), m), 1))
 }
 
@@ -79,38 +75,43 @@ fn tripled(pvad: Pair) -> Pair
 fn raised(thvad: Pair) -> Pair
     ensures { result ≡ clause.raised_of thvad }
 {
-    fitted(thvad.e, l_add(thvad.m as i32, shr(thvad.m, 4) as i32))
+    fitted(
+        thvad.e,
+        l_add(i32::from(thvad.m), i32::from(shr(thvad.m, 4))),
+    )
 }
 
 // pvad and the margin.
 fn margin(pvad: Pair) -> Pair
     ensures { result ≡ clause.margin_of pvad }
 {
-    let e = pvad.e;
-    let m = pvad.m;
-    if e == E_MARGIN {
-        return Pair {
-            e: add(e, 1),
-            m: short(l_shr(l_add(m as i32, M_MARGIN as i32), 1)),
-        };
+    match pvad.e.cmp(&MARGIN.e) {
+        Ordering::Equal => Pair {
+            e: add(pvad.e, 1),
+            m: short(l_shr(l_add(i32::from(pvad.m), i32::from(MARGIN.m)), 1)),
+        },
+        Ordering::Greater => fitted(
+            pvad.e,
+            l_add(
+                i32::from(pvad.m),
+                i32::from(shr(MARGIN.m, sub(pvad.e, MARGIN.e))),
+            ),
+        ),
+        Ordering::Less => fitted(
+            MARGIN.e,
+            l_add(
+                i32::from(MARGIN.m),
+                i32::from(shr(pvad.m, sub(MARGIN.e, pvad.e))),
+            ),
+        ),
     }
-    if e > E_MARGIN {
-        return fitted(e, l_add(m as i32, shr(M_MARGIN, sub(e, E_MARGIN)) as i32));
-    }
-    fitted(
-        E_MARGIN,
-        l_add(M_MARGIN as i32, shr(m, sub(E_MARGIN, e)) as i32),
-    )
 }
 
 // The threshold, or x where it is greater.
 fn at_most(x: Pair, thvad: Pair) -> Pair
     ensures { result ≡ clause.at_most_of x thvad }
 {
-    if greater(thvad, x) {
-        return x;
-    }
-    thvad
+    if greater(thvad, x) { x } else { thvad }
 }
 
 // The new threshold.
@@ -119,10 +120,12 @@ fn adapted(thvad: Pair, pvad: Pair) -> Pair
 {
     let low = lowered(thvad);
     let top = tripled(pvad);
-    if greater(top, low) {
-        return at_most(margin(pvad), at_most(top, raised(low)));
-    }
-    at_most(margin(pvad), low)
+    let next = if greater(top, low) {
+        at_most(top, raised(low))
+    } else {
+        low
+    };
+    at_most(margin(pvad), next)
 }
 
 // What is kept after a frame: the threshold and the filter are learned from a run of frames that hold no speech.
@@ -138,40 +141,22 @@ pub fn adapt(
 ) -> Kept
     ensures { result ≡ clause.adapt_of acf0 pvad ptch stat tone rav1 normrav1 kept }
 {
-    let mut next = kept;
-    let floor = Pair { e: E_PTH, m: M_PTH };
-    if greater(floor, acf0) {
-        let level = Pair {
-            e: E_PLEV,
-            m: M_PLEV,
-        };
-        next.thvad = level;
-        return next;
-    }
-    if ptch {
-        next.adaptcount = 0;
-        return next;
-    }
-    if !stat {
-        next.adaptcount = 0;
-        return next;
-    }
-    if tone {
-        next.adaptcount = 0;
-        return next;
-    }
-    let count = add(kept.adaptcount, 1);
-    if count <= 8 {
-        next.adaptcount = count;
-        return next;
-    }
-    let old = kept.thvad;
-    let new = adapted(old, pvad);
-    Kept {
-        thvad: new,
-        adaptcount: 9,
-        rvad: rav1,
-        normrvad: normrav1,
+    match way_taken(acf0, ptch, stat, tone, kept.adaptcount) {
+        Way::Floor => Kept {
+            thvad: PLEV,
+            ..kept
+        },
+        Way::Periodic | Way::Unsteady | Way::Tone => Kept {
+            adaptcount: 0,
+            ..kept
+        },
+        Way::Waiting(adaptcount) => Kept { adaptcount, ..kept },
+        Way::Adapted => Kept {
+            thvad: adapted(kept.thvad, pvad),
+            adaptcount: 9,
+            rvad: rav1,
+            normrvad: normrav1,
+        },
     }
 }
 
@@ -179,8 +164,7 @@ pub fn adapt(
 pub fn way_taken(acf0: Pair, ptch: bool, stat: bool, tone: bool, adaptcount: i16) -> Way
     ensures { result ≡ way_taken acf0 ptch stat tone adaptcount }
 {
-    let floor = Pair { e: E_PTH, m: M_PTH };
-    if greater(floor, acf0) {
+    if greater(PTH, acf0) {
         return Way::Floor;
     }
     if ptch {

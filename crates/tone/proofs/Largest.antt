@@ -3,10 +3,13 @@
 use mathlib.Core.Path.{◌≡◌, refl, ap, ◌∙◌}
 use mathlib.Core.List.{List}
 use Prim.Native.Nat.{ℕ, suc}
+use native.Mathlib.Omega.{arith}
 use lib.IntN.{ℤ, pos}
 use lib.Signed.{lt_z, ◌≤ℤ◌}
 use mir.Syntax.{w16}
 use mir.Val.{SFits}
+use Rattle.std.specs.Int.{int_max, int_min}
+use Rattle.std.proofs.lemmas.Int.{ints}
 use Rattle.numbers.specs.Clamp.{clamp}
 use Rattle.numbers.specs.Sum.{at}
 use Rattle.numbers.proofs.Parts.{zarith, of, sign}
@@ -20,6 +23,13 @@ greater_of x y = IF lt_z x y THEN y ELSE x
 
 abbrev pub lesser_of : ℤ → ℤ → ℤ
 lesser_of x y = IF lt_z y x THEN y ELSE x
+
+-- ---- as the library has them
+pub max_is : (x y : ℤ) → int_max x y ≡ greater_of x y
+max_is x y = by_test (λ (z : ℤ). int_max x y ≡ z) (lt_z x y) y x (λ t. grind (arith, ints)) (λ t. grind (arith, ints))
+
+pub min_is : (x y : ℤ) → int_min x y ≡ lesser_of x y
+min_is x y = by_test (λ (z : ℤ). int_min x y ≡ z) (lt_z y x) y x (λ t. grind (arith, ints)) (λ t. grind (arith, ints))
 
 -- ---- the greater is the least number that is above both
 left : (x y : ℤ) → x ≤ℤ greater_of x y

@@ -2,9 +2,7 @@
 #![tactic(auto)]
 
 ghost use Rattle.std.specs.Prelude.{◌≡◌, ◌≤◌, pos, length, ◌≤ℤ◌};
-ghost use Rattle.std.specs.Int.Signed.{lt_z};
 ghost use Rattle.operations.specs.Operations as op;
-ghost use Rattle.rows.specs.Choice.{IF◌THEN◌ELSE◌};
 ghost use Rattle.tone.specs.Window as window;
 ghost use Rattle.tone.specs.Autocorrelation as acf;
 ghost use Rattle.tone.specs.Coefficients as coef;
@@ -27,7 +25,8 @@ const HANN: [i16; 80] = [
 
 // ---- 6.10.1
 
-// The windowed samples. The table is taken once, and the two halves are a loop each, for speed.
+// The windowed samples. For speed, the table is taken once, and the two halves are a loop each that counts: the compiler works on many entries at
+// once in those, and not in `from_fn` of so long an array.
 fn sofh(sof: &[i16]) -> [i16; 160]
     requires { length sof.now ≡ 160 }
     ensures { result ≡ window.sofh_of sof.now }
@@ -45,32 +44,17 @@ fn sofh(sof: &[i16]) -> [i16; 160]
 
 // ---- 6.10.2
 
-// The greater of two numbers.
-fn greater(x: i16, y: i16) -> i16
-    ensures { result ≡ (IF lt_z x y THEN y ELSE x) }
-{
-    if x < y { y } else { x }
-}
-
-// The lesser of two numbers.
-fn lesser(x: i16, y: i16) -> i16
-    ensures { result ≡ (IF lt_z y x THEN y ELSE x) }
-{
-    if y < x { y } else { x }
-}
-
 // The largest magnitude: for speed, that of the largest and of the least number. The magnitude of -32768 is 32767.
 fn smax(sofh: [i16; 160]) -> i16
     ensures { result ≡ acf.smax_of 160 sofh }
 {
     let mut high: i16 = 0;
     let mut low: i16 = 0;
-    for k in 0..160 {
-        let x = sofh[k];
-        high = greater(high, x);
-        low = lesser(low, x);
+    for x in &sofh {
+        high = high.max(*x);
+        low = low.min(*x);
     }
-    greater(high, abs(low))
+    high.max(abs(low))
 }
 
 // The scaling factor.
@@ -80,7 +64,7 @@ fn scalauto(smax: i16) -> i16
     if smax == 0 {
         return 0;
     }
-    sub(4, norm(l_shl(smax as i32, 16)))
+    sub(4, norm(l_shl(i32::from(smax), 16)))
 }
 
 // The rounded product by 16384 / 2^n: for speed, a shift, and of that the half rounded up.
@@ -92,7 +76,7 @@ fn halved(x: i16, n: u32) -> i16
     y - (y >> 1)
 }
 
-// The samples, scaled by at most 4 bits.
+// The samples, scaled by at most 4 bits. The loop counts, for speed: of so long an array `map` is done entry by entry.
 fn scaled(scalauto: i16, sofh: [i16; 160]) -> [i16; 160]
     requires { scalauto ≤ℤ pos 4 }
     ensures { result ≡ acf.scaled_of scalauto sofh }
@@ -114,7 +98,7 @@ fn dynamic(sofh: [i16; 160]) -> [i16; 160]
     scaled(scalauto(smax(sofh)), sofh)
 }
 
-// One autocorrelation of samples that are at most 2048 in magnitude: no sum clips.
+// One autocorrelation of samples that are at most 2048 in magnitude: no sum clips. The loop counts, for speed: over a `zip` each lag costs more.
 fn acfh(sofh: &[i16; 160], k: usize) -> i32
     requires { (k ≤ 4) × acf.Small sofh.now }
     ensures { result ≡ acf.l_acfh_of sofh.now k }
@@ -135,17 +119,7 @@ fn rc(sofh: [i16; 160]) -> [i16; 9]
 {
     reflection(
         4,
-        [
-            acfh(&sofh, 0),
-            acfh(&sofh, 1),
-            acfh(&sofh, 2),
-            acfh(&sofh, 3),
-            acfh(&sofh, 4),
-            0,
-            0,
-            0,
-            0,
-        ],
+        std::array::from_fn(|k| if k <= 4 { acfh(&sofh, k) } else { 0 }),
     )
 }
 
@@ -156,7 +130,7 @@ fn pole(a1: i16, a2: i16) -> bool
     ensures { result ≡ pole.pole_of a1 a2 }
 {
     let den = l_mult(a1, a1);
-    let num = l_sub(l_shl(a2 as i32, 16), den);
+    let num = l_sub(l_shl(i32::from(a2), 16), den);
     if num <= 0 {
         return false;
     }
@@ -174,8 +148,8 @@ fn prederr(rc: [i16; 9]) -> i16
     ensures { result ≡ gain.prederr_of rc 4 }
 {
     let mut err: i16 = 32767;
-    for i in 1..5 {
-        err = mult(err, sub(32767, mult(rc[i], rc[i])));
+    for r in &rc[1..5] {
+        err = mult(err, sub(32767, mult(*r, *r)));
     }
     err
 }
@@ -187,18 +161,12 @@ fn judged(rc: [i16; 9]) -> bool
     let temp = shr(rc[1], 2);
     let a1 = add(temp, mult_r(rc[2], temp));
     let a2 = shr(rc[2], 2);
-    if pole(a1, a2) {
-        return sub(prederr(rc), 1464) < 0;
-    }
-    false
+    pole(a1, a2) && sub(prederr(rc), 1464) < 0
 }
 
 // 6.10. What is not 160 samples is no tone.
 pub fn tone(sof: &[i16]) -> bool
     ensures { result ≡ whole.flag_of sof.now }
 {
-    if sof.len() != 160 {
-        return false;
-    }
-    judged(rc(dynamic(sofh(sof))))
+    sof.len() == 160 && judged(rc(dynamic(sofh(sof))))
 }

@@ -5,56 +5,46 @@ use mathlib.Core.List.{List, [], ◌∷◌, append-nil}
 use Prim.Native.Nat.{ℕ, zero, suc, ◌+◌, ◌<◌, min}
 use native.Mathlib.Omega.{arith}
 use borrow.Author.Tests.{le-leb, lt-leb}
-use lib.Dec.{eqb}
 use lib.ListN.{length, replicate, length-take}
 use lib.Seq.{take_all}
 use Rattle.rows.specs.Choice.{IF◌THEN◌ELSE◌}
 use Rattle.counts.specs.declared.Totals.{Totals}
 use Rattle.counts.specs.declared.Counted.{Counted}
-use Rattle.counts.specs.Counts.{totals_of, limit, count_of}
+use Rattle.counts.specs.Counts.{totals_of, limit}
 use Rattle.counts.proofs.Adds.{three_add, two_add}
 use Rattle.state.specs.Valid.{reset_of}
-use Rattle.pieces.specs.Lines.{lines_of, short}
+use Rattle.pieces.specs.Lines.{lines_of}
 use Rattle.pieces.specs.Cut.{rest_of}
 use Rattle.pieces.specs.Pieces.{flat, handed_of, handed_all}
 use Rattle.pieces.proofs.Caller.{state_append, state_whole}
 use Rattle.pieces.proofs.Folds.{silent}
-use Rattle.runner.specs.declared.Said.{Said}
-use Rattle.runner.specs.Run.{next_of, reply_of, replies_of}
-use Rattle.runner.proofs.Steps.{said_short}
+use Rattle.runner.specs.Run.{replies_of}
 use Rattle.runner.proofs.Replies.{replies_length}
+use Rattle.player.specs.declared.Player.{Player}
 use Rattle.totals.specs.declared.Tally.{Tally}
-use Rattle.totals.specs.declared.Night.{Night}
 use Rattle.totals.specs.Whole.{night_of}
 use Rattle.totals.specs.Fed.{tallied_of, ran_of, start_of, fed_of, finish_of, calls_from}
+use Rattle.totals.specs.Laws.{short_next}
 use Rattle.totals.specs.Asked.{comes_to, counted_replies, Asked}
 use Rattle.totals.proofs.Limit.{stays, night_is}
 
--- of a line the first 85 bytes are enough
-abbrev after : Tally → Said → Tally
-after t x = let c = count_of t.counted x.reply in record { counted = c; state = IF eqb c.refusal 0 THEN x.next ELSE t.state }
-
-tallied_short : (t : Tally) (l : List ℕ) → tallied_of t (short l) ≡ tallied_of t l
-unfolding tallied_of reply_of next_of
-tallied_short t l = ap (after t) (said_short t.state l)
-
 -- ---- pieces one after the other
-calls_from_lem : (n : Night) (ps : List (List ℕ)) → calls_from n ps ≡ (ran_of n.tally (handed_all n.finder ps)).counted
+calls_from_lem : (n : Player Tally) (ps : List (List ℕ)) → calls_from n ps ≡ (ran_of n.hearer (handed_all n.finder ps)).counted
 unfolding calls_from finish_of fed_of ran_of handed_all
 calls_from_lem n [] = refl
 calls_from_lem n (p ∷ ps) =
     calls_from_lem (fed_of n p) ps
-    ∙ ap (λ (t : Tally). t.counted) (sym (state_append tallied_of silent n.tally (handed_of n.finder p) (handed_all (rest_of n.finder p) ps)))
+    ∙ ap (λ (t : Tally). t.counted) (sym (state_append tallied_of silent n.hearer (handed_of n.finder p) (handed_all (rest_of n.finder p) ps)))
 
 pub called : (ps : List (List ℕ)) → calls_from start_of ps ≡ night_of (flat ps)
 unfolding start_of ran_of
 called ps =
     calls_from_lem start_of ps
-    ∙ (ap (λ (t : Tally). t.counted) (state_whole tallied_of silent tallied_short start_of.tally ps) ∙ night_is (flat ps))
+    ∙ (ap (λ (t : Tally). t.counted) (state_whole tallied_of silent (λ t l. short_next t [] l) start_of.hearer ps) ∙ night_is (flat ps))
 
 -- who stops feeding at a refusal has the same: neither the rest of the trace nor its end changes anything
-pub stops : (n : Night) (ps : List (List ℕ)) → (n.tally.counted.refusal ≡ 0 → ⊥) → calls_from n ps ≡ n.tally.counted
-stops n ps h = calls_from_lem n ps ∙ ap (λ (t : Tally). t.counted) (stays n.tally (handed_all n.finder ps) h)
+pub stops : (n : Player Tally) (ps : List (List ℕ)) → (n.hearer.counted.refusal ≡ 0 → ⊥) → calls_from n ps ≡ n.hearer.counted
+stops n ps h = calls_from_lem n ps ∙ ap (λ (t : Tally). t.counted) (stays n.hearer (handed_all n.finder ps) h)
 
 -- ---- what is asked
 module _ (ps : List (List ℕ)) where

@@ -1,3 +1,4 @@
 pub mod Limit
 pub mod Reports
 pub mod Calls
+pub mod Heard

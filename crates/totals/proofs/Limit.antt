@@ -96,6 +96,6 @@ counts_on rs s (l ∷ ls) h =
     ∙ (counts_on (rs ++ (r ∷ [])) (next_of s l) ls (omega arith) ∙ ap night (append_assoc rs (r ∷ []) rest)))
 
 -- from the start it is the whole night
-pub night_is : (input : List ℕ) → (ran_of start_of.tally (lines_of input)).counted ≡ night_of input
+pub night_is : (input : List ℕ) → (ran_of start_of.hearer (lines_of input)).counted ≡ night_of input
 unfolding start_of night_of replies_of
 night_is input = counts_on [] reset_of (lines_of input) (omega arith)

@@ -11,7 +11,7 @@ use Rattle.pieces.specs.Cut.{finder_of, held_of, rest_of}
 use Rattle.pieces.specs.Pieces.{state_after, handed_of}
 use Rattle.runner.specs.Run.{next_of, reply_of}
 use Rattle.totals.specs.declared.Tally.{Tally}
-use Rattle.totals.specs.declared.Night.{Night}
+use Rattle.player.specs.declared.Player.{Player}
 
 -- ---- lines one after the other
 
@@ -26,18 +26,18 @@ ran_of t ls = state_after tallied_of t ls
 
 -- ---- pieces
 
-unfoldable pub start_of : Night
-start_of = record { tally = record { counted = record { refusal = 0; totals = totals_of [] }; state = reset_of }; finder = finder_of [] }
+unfoldable pub start_of : Player Tally
+start_of = record { hearer = record { counted = record { refusal = 0; totals = totals_of [] }; state = reset_of }; finder = finder_of [] }
 
 -- the lines that end in a piece are counted, and the rest is carried
-unfoldable pub fed_of : Night → List ℕ → Night
-fed_of n p = record { tally = ran_of n.tally (handed_of n.finder p); finder = rest_of n.finder p }
+unfoldable pub fed_of : Player Tally → List ℕ → Player Tally
+fed_of n p = record { hearer = ran_of n.hearer (handed_of n.finder p); finder = rest_of n.finder p }
 
 -- at the end what is carried is a line
-unfoldable pub finish_of : Night → Counted
-finish_of n = (ran_of n.tally (lines_of (held_of n.finder))).counted
+unfoldable pub finish_of : Player Tally → Counted
+finish_of n = (ran_of n.hearer (lines_of (held_of n.finder))).counted
 
 -- pieces one after the other, and then the end
-unfoldable pub calls_from : Night → List (List ℕ) → Counted
+unfoldable pub calls_from : Player Tally → List (List ℕ) → Counted
 calls_from n [] = finish_of n
 calls_from n (p ∷ ps) = calls_from (fed_of n p) ps

@@ -2,12 +2,13 @@
 #![tactic(auto)]
 
 ghost use Rattle.std.specs.Prelude.{◌≡◌};
-ghost use Rattle.pieces.specs.Lines.{lines_of};
 ghost use Rattle.totals.specs.Report as line;
 ghost use Rattle.totals.specs.Fed as piece;
+ghost use Rattle.totals.specs.Hears as hears;
+ghost use Rattle.totals.specs.Laws as law;
 
 use counts::{Counted, Totals, count};
-use pieces::Finder;
+use player::{Hearer, Player};
 use state::State;
 
 // The bytes of a report: five numbers of eight digits, and a line feed.
@@ -21,11 +22,7 @@ pub struct Tally {
 }
 
 // A night between two pieces of its trace.
-#[derive(Clone, Copy)]
-pub struct Night {
-    pub tally: Tally,
-    pub finder: Finder,
-}
+pub type Night = Player<Tally>;
 
 // ---- a night in pieces
 
@@ -48,74 +45,59 @@ fn tallied(t: Tally, line: &[u8]) -> Tally
     }
 }
 
-// Counts the answers to the lines of an input.
-fn run(t: Tally, input: &[u8]) -> Tally
-    ensures { result ≡ piece.ran_of t (lines_of input.now) }
-{
-    let mut n = t;
-    let mut i: usize = 0;
-    while i < input.len() {
-        let to = pieces::line_end(input, i);
-        n = tallied(n, &input[i..to]);
-        i = to;
+// What is counted is not written.
+impl Hearer for Tally {
+    const MOST: usize = 0;
+
+    ghost MOST = { 0 };
+
+    ghost next = { hears.next_of };
+
+    ghost text = { hears.text_of };
+
+    fn hear(&mut self, _block: &[u8], line: &[u8], _out: &mut [u8], at: usize) -> usize {
+        *self = tallied(*self, line);
+        at
     }
-    n
+
+    ghost most = { law.text_most };
+
+    ghost short_next = { law.short_next };
+
+    ghost short_text = { law.short_text };
 }
 
 // A night before the first piece of its trace.
 pub fn start() -> Night
     ensures { result ≡ piece.start_of }
 {
-    let state = State::reset();
-    let finder = pieces::start();
-    Night {
-        tally: Tally {
-            counted: Counted {
-                refusal: 0,
-                totals: Totals {
-                    accepted: 0,
-                    speech: 0,
-                    held: 0,
-                    quiet: 0,
-                    refused: 0,
-                },
+    player::start(Tally {
+        counted: Counted {
+            refusal: 0,
+            totals: Totals {
+                accepted: 0,
+                speech: 0,
+                held: 0,
+                quiet: 0,
+                refused: 0,
             },
-            state,
         },
-        finder,
-    }
+        state: State::reset(),
+    })
 }
 
 // Feeds a piece of the trace.
 pub fn feed(n: Night, input: &[u8]) -> Night
     ensures { result ≡ piece.fed_of n input.now }
 {
-    let finder = n.finder;
-    let before = n.tally;
-    let c = pieces::cut(finder, input);
-    let head = c.head;
-    let k = c.n;
-    let middle = run(before, &head[..k]);
-    let from = c.from;
-    let to = c.to;
-    let after = run(middle, &input[from..to]);
-    let rest = c.rest;
-    Night {
-        tally: after,
-        finder: rest,
-    }
+    player::play(n, input, &[], &mut []).player
 }
 
 // The end of the trace: what is carried is a line too.
 pub fn finish(n: Night) -> Counted
     ensures { result ≡ piece.finish_of n }
 {
-    let finder = n.finder;
-    let before = n.tally;
-    let k = pieces::held(finder);
-    let line = finder.line;
-    let after = run(before, &line[..k]);
-    after.counted
+    player::ended(n).counted
 }
 
 // ---- the report

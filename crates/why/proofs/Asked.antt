@@ -19,7 +19,7 @@ use Rattle.threshold.specs.declared.Way.{Way}
 use Rattle.frames.specs.Frame.{Frame}
 use Rattle.state.specs.declared.State.{State}
 use Rattle.state.specs.Valid.{reset_of}
-use Rattle.detector.specs.declared.Answer.{Answer}
+use Rattle.detector.specs.Answer.{Answer}
 use Rattle.detector.specs.Step.{refused_of, tone_read}
 use Rattle.detector.specs.Run.{answer_to, state_from, accepted_from, raws_of}
 use Rattle.detector.proofs.Run.{Hangs, step_hangs, Counted, counted_start, flag_more, burst_more, counted_more, raws_length, raws_more, accepted_more, refused_more, as_given}
@@ -27,7 +27,7 @@ use Rattle.why.specs.declared.Flag.{Flag}
 use Rattle.why.specs.declared.Reasons.{Reasons}
 use Rattle.why.specs.declared.Why.{Why}
 use Rattle.why.specs.declared.Explainer.{Explainer}
-use Rattle.why.specs.declared.Explained.{Explained}
+use Rattle.why.specs.Explained.{Explained}
 use Rattle.why.specs.Explain.{limit, start_of, flag_reason, latest_after, threshold_reason, accepted_of, denied_of, explained_for}
 use Rattle.why.specs.Fits.{Fitting}
 use Rattle.why.specs.Asked.{explained_to, explainer_from, explainer, count, answer, FittingAt, Explains, Denies, Asked}

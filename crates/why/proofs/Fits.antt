@@ -20,7 +20,7 @@ use Rattle.threshold.specs.declared.Way.{Way}
 use Rattle.threshold.specs.Threshold.{PTH}
 use Rattle.threshold.specs.Ways.{risen_of, way_taken}
 use Rattle.state.specs.declared.State.{State}
-use Rattle.detector.specs.declared.Answer.{Answer}
+use Rattle.detector.specs.Answer.{Answer}
 use Rattle.why.specs.declared.Flag.{Flag}
 use Rattle.why.specs.Explain.{flag_reason, threshold_reason}
 use Rattle.why.specs.Fits.{Case, flag_case, way_case, Fits, FlagHolds, WayHolds}

@@ -9,7 +9,7 @@ use Rattle.threshold.specs.Ways.{left_by}
 use Rattle.threshold.proofs.Ways.{by_way}
 use Rattle.frames.specs.Frame.{Frame, samples_ok}
 use Rattle.state.specs.declared.State.{State}
-use Rattle.detector.specs.declared.Answer.{Answer}
+use Rattle.detector.specs.Answer.{Answer}
 use Rattle.detector.specs.Step.{spectral_of, accepted_of, tone_read, tone_kept}
 use Rattle.detector.specs.Run.{answer_to}
 use Rattle.detector.proofs.Table.{accepted_0, step_accepted}

@@ -4,3 +4,4 @@ pub mod Fits
 pub mod Asked
 pub mod Left
 pub mod Instances
+pub mod Results

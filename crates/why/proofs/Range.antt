@@ -17,13 +17,13 @@ use Rattle.threshold.specs.declared.Way.{Way}
 use Rattle.threshold.specs.Threshold.{PTH}
 use Rattle.threshold.specs.Ways.{risen_of, way_taken}
 use Rattle.frames.specs.Frame.{Direction, samples_ok}
-use Rattle.detector.specs.declared.Answer.{Answer}
+use Rattle.detector.specs.Answer.{Answer}
 use Rattle.detector.specs.Step.{answer_for}
 use Rattle.detector.proofs.Table.{accepted_0}
 use Rattle.detector.proofs.Keeps.{accepted}
 use Rattle.why.specs.declared.Why.{Why}
 use Rattle.why.specs.declared.Explainer.{Explainer}
-use Rattle.why.specs.declared.Explained.{Explained}
+use Rattle.why.specs.Explained.{Explained}
 use Rattle.why.specs.Explain.{threshold_reason, accepted_of, denied_of, numbered_of, reasoned_of, explained_for}
 use Rattle.why.proofs.Steps.{numbered_within, numbered_left}
 

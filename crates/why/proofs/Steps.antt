@@ -10,10 +10,10 @@ use lib.IntN.{ℤ}
 use Rattle.rows.specs.Choice.{IF◌THEN◌ELSE◌}
 use Rattle.rows.proofs.Choice.{by_yes, by_no, by_test, either}
 use Rattle.frames.specs.Frame.{Direction}
-use Rattle.detector.specs.declared.Answer.{Answer}
+use Rattle.detector.specs.Answer.{Answer}
 use Rattle.detector.specs.Step.{refused_of, tone_read, answer_for}
 use Rattle.why.specs.declared.Explainer.{Explainer}
-use Rattle.why.specs.declared.Explained.{Explained}
+use Rattle.why.specs.Explained.{Explained}
 use Rattle.why.specs.Fits.{why_case}
 use Rattle.why.specs.Explain.{limit, accepted_of, denied_of, numbered_of, reasoned_of, explained_for}
 

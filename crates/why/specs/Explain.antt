@@ -11,12 +11,12 @@ use Rattle.threshold.specs.Ways.{way_taken}
 use Rattle.frames.specs.Frame.{Direction}
 use Rattle.state.specs.declared.State.{State}
 use Rattle.state.specs.Valid.{reset_of}
-use Rattle.detector.specs.declared.Answer.{Answer}
+use Rattle.detector.specs.Answer.{Answer}
 use Rattle.detector.specs.Step.{refused_of, tone_read, answer_for}
 use Rattle.why.specs.declared.Flag.{Flag}
 use Rattle.why.specs.declared.Why.{Why}
 use Rattle.why.specs.declared.Explainer.{Explainer}
-use Rattle.why.specs.declared.Explained.{Explained}
+use Rattle.why.specs.Explained.{Explained}
 
 -- the most frames that are numbered
 abbrev pub limit : ℕ

@@ -8,7 +8,7 @@ use Rattle.threshold.specs.declared.Way.{Way}
 use Rattle.threshold.specs.Threshold.{PTH}
 use Rattle.threshold.specs.Ways.{risen_of}
 use Rattle.state.specs.declared.State.{State}
-use Rattle.detector.specs.declared.Answer.{Answer}
+use Rattle.detector.specs.Answer.{Answer}
 use Rattle.detector.specs.Run.{raws_of}
 use Rattle.why.specs.declared.Flag.{Flag}
 use Rattle.why.specs.declared.Reasons.{Reasons}

@@ -1,4 +1,6 @@
+pub mod Explained
 pub mod Explain
 pub mod Fits
 pub mod Asked
 pub mod Worked
+pub mod Result

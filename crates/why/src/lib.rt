@@ -1,20 +1,25 @@
 // Why a frame was sent or not, and why the threshold moved or not: the reasons of each frame of a run from reset.
 #![tactic(auto)]
 
-ghost use Rattle.std.specs.Prelude.{◌≡◌, ◌<◌};
-ghost use Rattle.frames.specs.Frame.{direction_of};
+ghost use Rattle.std.specs.Prelude.{◌≡◌, ◌<◌, Ok};
+ghost use Rattle.frames.specs.Direction.{direction_in};
+ghost use Rattle.detector.specs.Step.{tone_read};
+ghost use Rattle.detector.specs.Result.{accepted_in};
 ghost use Rattle.why.specs.Explain as meaning;
+ghost use Rattle.why.specs.Result.{explained_in};
 ghost use Rattle.why.specs.Fits.{why_case};
 
-use detector::Answer;
+use detector::Accepted;
+use frames::Direction;
 use hangover::BURSTCONST;
 use lags::ptch;
 use pairs::Pair;
+use refusals::Refusal;
 use state::State;
 use threshold::{Way, way_taken};
 
 // The most frames that are numbered.
-const LIMIT: u32 = 4294967295;
+const LIMIT: u32 = u32::MAX;
 
 // Why the flag is what it is: the energy is above the threshold; the hangover holds it up, with the number of the latest frame that completed a
 // burst; or neither.
@@ -33,14 +38,15 @@ pub struct Reasons {
     pub threshold: Way,
 }
 
-// A refused frame is explained by its number only.
+// A refused frame is explained by its number only: a line's refusal, as it is read, comes as a number.
 #[derive(Clone, Copy)]
 pub enum Why {
     Refused(u8),
     Because(Reasons),
 }
 
-// A run so far: the detector, how many frames were accepted, and the number of the latest that completed a burst, 0 where none did.
+// A run so far: the detector, how many frames were accepted, and the number of the latest that completed a burst, 0 where none did: `explain` answers from
+// every such run, and a hangover names this number.
 #[derive(Clone, Copy)]
 pub struct Explainer {
     pub state: State,
@@ -48,12 +54,19 @@ pub struct Explainer {
     pub latest: u32,
 }
 
-// The answer to a frame, its reasons, and the run after it.
+// The answer to a frame that is accepted, its reasons, and the run after it.
 #[derive(Clone, Copy)]
 pub struct Explained {
-    pub answer: Answer,
-    pub why: Why,
+    pub answer: Accepted,
+    pub reasons: Reasons,
     pub next: Explainer,
+}
+
+// A frame that is refused: why, and the run as it was.
+#[derive(Clone, Copy)]
+pub struct Denied {
+    pub refusal: Refusal,
+    pub explainer: Explainer,
 }
 
 // A run before its first frame.
@@ -104,78 +117,60 @@ fn latest_after(burstcount: i16, number: u32, latest: u32) -> u32
     latest
 }
 
-// The answer, or refusal 7 in place of one that accepts a frame for which there is no number.
-fn numbered(e: Explainer, a: Answer) -> Answer
-    ensures { result ≡ meaning.numbered_of e a }
+// The flag that 6.6 reads.
+fn tone_read(direction: Direction<'_>, s: State) -> bool
+    ensures { result ≡ tone_read (direction_in direction.entry) s }
 {
-    if a.refusal != 0 {
-        return a;
+    match direction {
+        Direction::Uplink => false,
+        Direction::Downlink(_) => s.tone,
     }
-    if e.number >= LIMIT {
-        let state = e.state;
-        return detector::refused(7, state);
-    }
-    a
 }
 
-// The reasons of a frame that is accepted.
-fn accepted(tone: bool, e: Explainer, a: Answer) -> Explained
+// An accepted frame, explained; `tone` is the flag that 6.6 read.
+fn because(tone: bool, e: Explainer, answer: Accepted) -> Explained
     requires { e.number < meaning.limit }
-    ensures { result ≡ meaning.accepted_of tone e a }
+    ensures { explained_in (Ok result) ≡ meaning.accepted_of tone e (accepted_in answer) }
 {
-    let before = e.state;
-    let after = a.next;
-    let acf0 = a.acf0;
     let number = e.number + 1;
-    let latest = latest_after(after.burstcount, number, e.latest);
-    let flag = flag_reason(a.vvad, a.vad, latest);
-    let threshold = threshold_reason(tone, before, acf0, a.stat);
+    let latest = latest_after(answer.next.burstcount, number, e.latest);
     let reasons = Reasons {
         number,
-        flag,
-        threshold,
+        flag: flag_reason(answer.vvad, answer.vad, latest),
+        threshold: threshold_reason(tone, e.state, answer.acf0, answer.stat),
     };
     let next = Explainer {
-        state: after,
+        state: answer.next,
         number,
         latest,
     };
     Explained {
-        answer: a,
-        why: Why::Because(reasons),
+        answer,
+        reasons,
         next,
     }
 }
 
-// Explains the detector's answer to a frame; `tone` is the flag that 6.6 read.
-fn reasoned(tone: bool, e: Explainer, step: Answer) -> Explained
-    ensures { result ≡ meaning.reasoned_of tone e step }
-{
-    let answer = numbered(e, step);
-    let n = answer.refusal;
-    if n != 0 {
-        return Explained {
-            answer,
-            why: Why::Refused(n),
-            next: e,
-        };
-    }
-    accepted(tone, e, answer)
-}
-
-// Explains one frame in either direction, lent as to the detector.
+// Explains one frame in either direction, lent as to the detector; one that would be accepted, and for which there is no number, is refused.
 pub fn explain(
-    downlink: bool,
+    direction: Direction<'_>,
     e: Explainer,
     acf: &[i32],
     lags: &[u16],
     scalvad: i16,
-    sof: &[i16],
-) -> Explained
-    ensures value { result ≡ meaning.explained_for (direction_of downlink sof.now) e acf.now lags.now scalvad }
-    ensures why_value { (why_case result.why).number ≡ result.answer.refusal }
+) -> Result<Explained, Denied>
+    ensures value { explained_in result ≡ meaning.explained_for (direction_in direction.entry) e acf.now lags.now scalvad }
+    ensures why_value { (why_case (explained_in result).why).number ≡ (explained_in result).answer.refusal }
 {
-    let state = e.state;
-    let step = detector::frame(downlink, acf, lags, scalvad, sof, state);
-    reasoned(downlink & state.tone, e, step)
+    match detector::frame(direction, acf, lags, scalvad, e.state) {
+        Err(r) => Err(Denied {
+            refusal: r.refusal,
+            explainer: e,
+        }),
+        Ok(_) if e.number >= LIMIT => Err(Denied {
+            refusal: Refusal::Limit,
+            explainer: e,
+        }),
+        Ok(a) => Ok(because(tone_read(direction, e.state), e, a)),
+    }
 }

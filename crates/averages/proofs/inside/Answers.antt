@@ -1,14 +1,14 @@
 -- `averages::inside` gives the pointer, or 0 for one past the last frame. Assumes nothing.
-use mathlib.Core.Path.{sym}
-use borrow.Author.Tests.{le-leb, lt-leb}
-use Rattle.rows.proofs.Choice.{by_yes, by_no}
+use Rattle.std.proofs.Common.{arith}
+use Rattle.std.proofs.lemmas.Grind.{common_steps}
+use Rattle.rows.specs.Choice.{IF◌THEN◌ELSE◌}
 use Rattle.averages.specs.Averages.{inside}
 use Rattle.averages.proofs.inside.Goals as goal
 
-pub returns-then-pt-last : goal.returns-then-pt-last
-unfolding inside
-returns-then-pt-last c = sym (by_yes _ _ (le-leb _ _ c.if-pt-last.true))
+pub returns-then-pt-last-clause-value : goal.returns-then-pt-last-clause-value
+unfolding inside IF◌THEN◌ELSE◌
+returns-then-pt-last-clause-value c = grind (arith, common_steps)
 
-pub returns : goal.returns
-unfolding inside
-returns c = sym (by_no _ _ (lt-leb _ _ c.if-pt-last.false))
+pub returns-else-pt-last-clause-value : goal.returns-else-pt-last-clause-value
+unfolding inside IF◌THEN◌ELSE◌
+returns-else-pt-last-clause-value c = grind (arith, common_steps)

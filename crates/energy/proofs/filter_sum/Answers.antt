@@ -1,14 +1,13 @@
 -- `energy::filter_sum` gives the filter sum: the products from the second on, then half of the first. Assumes nothing.
-use borrow.Author.Rules.{rules}
+use Rattle.std.proofs.Common.{rules}
 use mathlib.Core.Path.{◌≡◌, ap, ap₂, ◌∙◌}
 use mathlib.Core.List.{List}
 use Prim.Native.Nat.{ℕ, suc, ◌<◌}
 use native.Mathlib.Omega.{arith}
 use lib.IntN.{ℤ, pos}
 use lib.ListN.{length}
-use mir.Syntax.{w16, w32}
+use mir.Facts.{to_z-of_z}
 use Rattle.numbers.specs.Sum.{at}
-use Rattle.numbers.proofs.Read.{ranged, zreads}
 use Rattle.operations.specs.Operations.{l_add, l_mult, ◌>>◌}
 use Rattle.operations.proofs.Laws.{l_mult_comm}
 use Rattle.rows.specs.Rows.{row, l_products}
@@ -17,7 +16,6 @@ use Rattle.rows.proofs.Sum.{l_sum_ext}
 use Rattle.energy.specs.Energy.{sacf_of, filter_sum_of}
 use Rattle.rows.proofs.Tail.{tail, tail_products}
 use Rattle.energy.proofs.filter_sum.Goals as goal
-use Rattle.energy.proofs.filter_sum.Goals.{After-l_add}
 
 -- ---- over plain rows
 module _ (acf s rvad : List ℤ) (e : s ≡ row 9 (sacf_of acf)) (nine : length rvad ≡ 9) where
@@ -34,21 +32,5 @@ module _ (acf s rvad : List ℤ) (e : s ≡ row 9 (sacf_of acf)) (nine : length 
       (tail_products rvad s nine (ap length e ∙ length_row 9 (sacf_of acf)) ∙ l_sum_ext 8 (λ k. l_mult (at rvad (suc k)) (at s (suc k))) (λ k. l_mult (sacf_of acf (suc k)) (at rvad (suc k))) others)
       (ap (λ (z : ℤ). l_mult z (at rvad 0) >> pos 1) (s_at 0 (omega arith)))
 
--- ---- of the places
-nine : (c : After-l_add) → length c.args.rvad ≡ 9
-nine c = search rules
-
 pub returns : goal.returns
-returns c =
-    let s = c.sacf-s.result in
-    let rvad = c.args.rvad in
-    let f0 = ranged w16 (at s 0) c.l_mult-arg-1.given in
-    let f1 = ranged w16 (at rvad 0) c.l_mult-arg-2-1.given in
-    let fm = ranged w32 c.l_mult.result c.l_mult.type_inv in
-    let fr = ranged w32 c.l_shr-first.result c.l_shr-first.type_inv in
-    let fp = ranged w32 c.products.result c.products.type_inv in
-    let fc = ranged w32 c.l_add.result c.l_add.type_inv in
-    let em : c.l_mult.result ≡ l_mult (at s 0) (at rvad 0) = simp zreads at c.l_mult.ensures in
-    let er : c.l_shr-first.result ≡ c.l_mult.result >> pos 1 = simp zreads at c.l_shr-first.ensures in
-    let ec : c.l_add.result ≡ l_add c.products.result c.l_shr-first.result = simp zreads at c.l_add.ensures in
-    simp zreads (ec ∙ ap₂ l_add c.products.ensures (er ∙ ap (λ (z : ℤ). z >> pos 1) em) ∙ sum_is c.args.acf s rvad c.sacf-s.ensures (nine c))
+returns c = let e = sum_is c.args.acf _ c.args.rvad c.sacf-s.ensures (search rules) in search (rules, to_z-of_z)

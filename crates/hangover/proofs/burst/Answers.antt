@@ -8,10 +8,8 @@ use Rattle.hangover.proofs.burst.Goals as goal
 
 pub returns-then-vvad : goal.returns-then-vvad
 unfolding burst_of IF◌THEN◌ELSE◌
-returns-then-vvad c =
-    let f = c.before.before.ranges.burstcount in
-    rw c.before.if-vvad.true (back w16 c.add.type_inv ∙ (simp zreads at c.add.ensures))
+returns-then-vvad c = let f = c.ranges.burstcount in rw c.if-vvad.true (back w16 c.add.type_inv ∙ (simp zreads at c.add.ensures))
 
-pub returns : goal.returns
+pub returns-else-vvad : goal.returns-else-vvad
 unfolding burst_of IF◌THEN◌ELSE◌
-returns c = rw c.if-vvad.false
+returns-else-vvad c = rw c.if-vvad.false

@@ -9,9 +9,8 @@ use Rattle.hangover.proofs.hangover.Goals as goal
 pub returns : goal.returns
 unfolding hangover_of
 returns c =
-    let s = c.before.before in
-    let f = s.ranges.burstcount in
-    let g = s.ranges.hangcount in
-    let h = ranged w16 c.before.burst.result c.before.burst.type_inv in
-    let b : c.before.burst.result ≡ burst_of s.args.vvad s.args.burstcount = simp zreads at c.before.burst.ensures in
-    (simp zreads at c.started.ensures) ∙ ap (λ (z : ℤ). started_of s.args.vvad z s.args.hangcount) b
+    let f = c.ranges.burstcount in
+    let g = c.ranges.hangcount in
+    let h = ranged w16 c.burst.result c.burst.type_inv in
+    let b : c.burst.result ≡ burst_of c.args.vvad c.args.burstcount = simp zreads at c.burst.ensures in
+    (simp zreads at c.started.ensures) ∙ ap (λ (z : ℤ). started_of c.args.vvad z c.args.hangcount) b

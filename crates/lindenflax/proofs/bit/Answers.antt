@@ -1,12 +1,18 @@
 -- `lindenflax::bit` gives a flag as a number. Assumes nothing.
+use mathlib.Core.Path.{◌≡◌, refl, ◌∙◌}
+use mathlib.Core.Bool.{Bool, true, false}
+use lib.IntN.{pos}
+use mir.Syntax.{w32}
+use mir.Val.{bool_byte}
 use Rattle.rows.specs.Choice.{IF◌THEN◌ELSE◌}
+use Rattle.numbers.proofs.Read.{back}
 use Rattle.lindenflax.specs.Run.{bit_of}
 use Rattle.lindenflax.proofs.bit.Goals as goal
 
-pub returns-then-flag : goal.returns-then-flag
+byte_is : (b : Bool) → pos (bool_byte b) ≡ bit_of b
 unfolding bit_of IF◌THEN◌ELSE◌
-returns-then-flag c = rw c.if-flag.true
+byte_is true = refl
+byte_is false = refl
 
-pub returns-else-flag : goal.returns-else-flag
-unfolding bit_of IF◌THEN◌ELSE◌
-returns-else-flag c = rw c.if-flag.false
+pub returns : goal.returns
+returns c = back w32 {z = c.from.result} c.from.type_inv ∙ (c.from.ensures ∙ byte_is c.args.flag)

@@ -1,46 +1,50 @@
 -- `lindenflax::lent` makes the tests in their order, and is left at the first that fails. Assumes nothing.
 use mathlib.Core.Path.{◌≡◌, sym, ap, ◌∙◌}
 use mathlib.Core.Bool.{true}
-use Rattle.rows.proofs.Choice.{not_true, not_false}
+use Rattle.std.proofs.Common.{rules}
+use Rattle.refusals.specs.Refusal.{number_of, number_in}
 use Rattle.lindenflax.specs.Run.{narrow_of, lengths_of}
 use Rattle.lindenflax.proofs.Answers.{all_lengths, no_acf, no_lags, no_run, no_answer, lent_1, lent_8, lent_5, lent_0}
 use Rattle.lindenflax.proofs.lent.Goals as goal
-use Rattle.lindenflax.proofs.lent.Goals.{After-narrow, Else-answer-ne-ANSWER}
+use Rattle.lindenflax.proofs.lent.Goals.{After-narrow, Else-answer-ne-ANSWER, then-acf-ne-NUMBERS-via-then-acf-ne-NUMBERS, then-acf-ne-NUMBERS-via-else-acf-ne-NUMBERS+then-lags-ne-LAGS, then-acf-ne-NUMBERS-via-else-acf-ne-NUMBERS+else-lags-ne-LAGS+then-state-ne-RUN, then-acf-ne-NUMBERS-via-else-acf-ne-NUMBERS+else-lags-ne-LAGS+else-state-ne-RUN+then-answer-ne-ANSWER}
 
 -- the lengths are right
-lengths : (c : Else-answer-ne-ANSWER) → let s = c.before.before.before.before.before in lengths_of s.args.acf.now s.args.lags.now s.args.state.now s.args.answer.now ≡ true
+lengths : (c : Else-answer-ne-ANSWER) → lengths_of c.args.acf.now c.args.lags.now c.args.state.now c.args.answer.now ≡ true
 lengths c =
-    let s = c in
-    all_lengths s.args.acf.now s.args.lags.now s.args.state.now s.args.answer.now c.if-acf-ne-NUMBERS.false c.if-lags-ne-LAGS.false c.if-state-ne-RUN.false c.if-answer-ne-ANSWER.false
+    all_lengths c.args.acf.now c.args.lags.now c.args.state.now c.args.answer.now c.if-acf-ne-NUMBERS.false c.if-lags-ne-LAGS.false c.if-state-ne-RUN.false c.if-answer-ne-ANSWER.false
 
 -- what the calls gave
 narrow_is : (c : After-narrow) → narrow_of c.args.state.now ≡ c.narrow.result
 narrow_is c = sym (c.narrow.ensures ∙ ap narrow_of c.taken.ensures)
 
 pub returns-then-acf-ne-NUMBERS : goal.returns-then-acf-ne-NUMBERS
+unfolding number_in number_of
 returns-then-acf-ne-NUMBERS c =
-    sym (lent_1 c.args.acf.now c.args.lags.now c.args.state.now c.args.answer.now c.args.samples (no_acf c.args.acf.now c.args.lags.now c.args.state.now c.args.answer.now c.if-acf-ne-NUMBERS.true))
+    let a = c.args in
+    sym (lent_1 a.acf.now a.lags.now a.state.now a.answer.now _ (
+    elim c.then-acf-ne-NUMBERS.branch [
+      | then-acf-ne-NUMBERS-via-then-acf-ne-NUMBERS w ↦ no_acf a.acf.now a.lags.now a.state.now a.answer.now w.if-acf-ne-NUMBERS.true
+      | then-acf-ne-NUMBERS-via-else-acf-ne-NUMBERS+then-lags-ne-LAGS w ↦ no_lags a.acf.now a.lags.now a.state.now a.answer.now w.if-acf-ne-NUMBERS.false w.if-lags-ne-LAGS.true
+      | then-acf-ne-NUMBERS-via-else-acf-ne-NUMBERS+else-lags-ne-LAGS+then-state-ne-RUN w ↦
+          no_run a.acf.now a.lags.now a.state.now a.answer.now w.if-acf-ne-NUMBERS.false w.if-lags-ne-LAGS.false w.if-state-ne-RUN.true
+      | then-acf-ne-NUMBERS-via-else-acf-ne-NUMBERS+else-lags-ne-LAGS+else-state-ne-RUN+then-answer-ne-ANSWER w ↦
+          no_answer a.acf.now a.lags.now a.state.now a.answer.now w.if-acf-ne-NUMBERS.false w.if-lags-ne-LAGS.false w.if-state-ne-RUN.false w.if-answer-ne-ANSWER.true
+    ]))
 
-pub returns-then-lags-ne-LAGS : goal.returns-then-lags-ne-LAGS
-returns-then-lags-ne-LAGS c =
-    sym (lent_1 c.args.acf.now c.args.lags.now c.args.state.now c.args.answer.now c.args.samples (no_lags c.args.acf.now c.args.lags.now c.args.state.now c.args.answer.now c.if-acf-ne-NUMBERS.false c.if-lags-ne-LAGS.true))
-
-pub returns-then-state-ne-RUN : goal.returns-then-state-ne-RUN
-returns-then-state-ne-RUN c =
-    sym (lent_1 c.args.acf.now c.args.lags.now c.args.state.now c.args.answer.now c.args.samples (no_run c.args.acf.now c.args.lags.now c.args.state.now c.args.answer.now c.if-acf-ne-NUMBERS.false c.if-lags-ne-LAGS.false c.if-state-ne-RUN.true))
-
-pub returns-then-answer-ne-ANSWER : goal.returns-then-answer-ne-ANSWER
-returns-then-answer-ne-ANSWER c =
-    sym (lent_1 c.args.acf.now c.args.lags.now c.args.state.now c.args.answer.now c.args.samples (no_answer c.args.acf.now c.args.lags.now c.args.state.now c.args.answer.now c.if-acf-ne-NUMBERS.false c.if-lags-ne-LAGS.false c.if-state-ne-RUN.false c.if-answer-ne-ANSWER.true))
-
-pub returns-then-not-samples : goal.returns-then-not-samples
-returns-then-not-samples c =
-    sym (lent_8 c.args.acf.now c.args.lags.now c.args.state.now c.args.answer.now c.args.samples (lengths (goal.at.returns-then-not-samples c).Else-answer-ne-ANSWER) (not_true c.if-not-samples.true-raw))
+pub returns-then-not-samples_ok : goal.returns-then-not-samples_ok
+unfolding number_in number_of
+returns-then-not-samples_ok c =
+    let a = c.args in
+    sym (lent_8 a.acf.now a.lags.now a.state.now a.answer.now _ (lengths (goal.at.returns-then-not-samples_ok c).Else-answer-ne-ANSWER) (search rules))
 
 pub returns-then-not-narrow : goal.returns-then-not-narrow
+unfolding number_in number_of
 returns-then-not-narrow c =
-    sym (lent_5 c.args.acf.now c.args.lags.now c.args.state.now c.args.answer.now c.args.samples (lengths (goal.at.returns-then-not-narrow c).Else-answer-ne-ANSWER) (not_false c.if-not-samples.false-raw) (narrow_is (goal.at.returns-then-not-narrow c).After-narrow ∙ not_true c.if-not-narrow.true-raw))
+    let a = c.args in
+    sym (lent_5 a.acf.now a.lags.now a.state.now a.answer.now _ (lengths (goal.at.returns-then-not-narrow c).Else-answer-ne-ANSWER) (search rules) (narrow_is (goal.at.returns-then-not-narrow c).After-narrow ∙ search rules))
 
 pub returns : goal.returns
+unfolding number_in
 returns c =
-    sym (lent_0 c.args.acf.now c.args.lags.now c.args.state.now c.args.answer.now c.args.samples (lengths (goal.at.returns c).Else-answer-ne-ANSWER) (not_false c.if-not-samples.false-raw) (narrow_is (goal.at.returns c).After-narrow ∙ not_false c.if-not-narrow.false-raw))
+    let a = c.args in
+    sym (lent_0 a.acf.now a.lags.now a.state.now a.answer.now _ (lengths (goal.at.returns c).Else-answer-ne-ANSWER) (search rules) (narrow_is (goal.at.returns c).After-narrow ∙ search rules))

@@ -14,4 +14,4 @@ unfolding shorts_of part
 returns c =
     let a = c.args in
     let n : a.first + a.count - a.first ≡ a.count = omega arith in
-    c.all_within.ensures ∙ ap (λ k. all (within (neg_ℤ (pos 32768)) (pos 32767)) (take k (drop a.first a.run))) n
+    c.all_within.ensures ∙ ap (λ k. all (within (neg_ℤ (pos 32768)) (pos 32767)) (take k (drop a.first a.run.now))) n

@@ -21,10 +21,9 @@ use Rattle.listener.proofs.answer.Goals as goal
 use Rattle.listener.proofs.answer.Goals.{After-read-heard}
 
 pub returns-in-Err : goal.returns-in-Err
-unfolding denied_of
 returns-in-Err c =
     let d = decoded_err c.args.line.now _ c.in-Err.ensures in
-    ap (λ (k : ℕ). denied_of k c.args.s) (c.number.ensures.value ∙ d.0) ∙ sym (said_no c.args.s c.args.block.now c.args.line.now d.1)
+    c.denied.ensures ∙ ap (λ (k : ℕ). denied_of k c.args.s) (c.number.ensures.value ∙ d.0) ∙ sym (said_no c.args.s c.args.block.now c.args.line.now d.1)
 
 -- no more samples than the frame has
 pub shared_ref_as_front-downlink : goal.shared_ref_as_front-downlink
@@ -35,11 +34,11 @@ unfolding sof_of
 sof_is c = ap (λ (x : Samples). take x.count x.sof) c.read-heard.ensures ∙ read_is _
 
 pub returns-in-Ok : goal.returns-in-Ok
-unfolding stepped_of accepted_of
+unfolding accepted_of
 returns-in-Ok c =
     let s = c.args.s in
     let d = decoded_ok c.args.line.now c.in-Ok.frame c.in-Ok.ensures in
     let f : SFits w16 c.in-Ok.frame.scale = search rules in
-    let r = simp zreads at c.downlink-r.ensures in
-    ap stepped_of (r ∙ ap₂ (λ (x : Decoded) (y : List ℤ). downlink_of x.acf x.lags x.scale y s) d.1 (sof_is (goal.at.returns-in-Ok c).After-read-heard))
+    let r = simp zreads at c.downlink.ensures in
+    c.stepped.ensures ∙ ap stepped_of (r ∙ ap₂ (λ (x : Decoded) (y : List ℤ). downlink_of x.acf x.lags x.scale y s) d.1 (sof_is (goal.at.returns-in-Ok c).After-read-heard))
     ∙ sym (said_ok s c.args.block.now c.args.line.now d.0)

@@ -4,14 +4,16 @@ use mathlib.Core.Bool.{true, false}
 use Prim.Native.Nat.{zero, suc}
 use lib.IntN.{ℤ, nat_abs, pos, negsuc, neg_ℤ, ◌-ℤ◌, ◌*ℤ◌}
 use lib.Signed.{lt_z, shr_z, ◌<ℤ◌}
-use mir.Syntax.{w16, w32}
+use mir.Syntax.{w16, w32, w64}
 use mir.Val.{SFits, to_z, of_z}
-use mir.Facts.{sfits_lit}
+use mir.Facts.{sfits_lit, to_z-of_z}
+use Rattle.std.specs.Int.{int_div_euclid}
 use Rattle.numbers.proofs.Parts.{zarith, neg, minus, times, of}
-use Rattle.numbers.proofs.Read.{back, same_bits, other_bits, cast_need, zreads}
+use Rattle.numbers.proofs.Read.{back, same_bits, other_bits, zreads}
 use Rattle.operations.specs.Operations.{over, div}
 use Rattle.operations.proofs.Wide.{clamped}
 use Rattle.operations.proofs.div.Goals as goal
+use Rattle.operations.proofs.div.Goals.{then-y-eq0, else-y-eq0+then-y-lt0, else-y-eq0+else-y-lt0}
 
 -- ---- over plain numbers
 scaled : {x : ℤ} → SFits w16 x → SFits w32 (x *ℤ pos 32768)
@@ -30,6 +32,12 @@ positive (negsuc n) h t = absurd (omega zarith)
 
 zero_less : (z : ℤ) → pos 0 -ℤ z ≡ neg_ℤ z
 zero_less z = omega (zarith, minus (pos 0) z, neg z)
+
+-- by a positive number the library's quotient is the one rounded down
+euclid : (n d : ℤ) → pos 0 <ℤ d → int_div_euclid n d ≡ shr_z n (nat_abs d)
+euclid (pos a) (pos b) h = refl
+euclid (negsuc a) (pos b) h = refl
+euclid n (negsuc b) h = absurd (omega zarith)
 
 over_zero : (n y : ℤ) → y ≡ pos 0 → n ≡ over n y
 unfolding over
@@ -51,70 +59,30 @@ above : {y : ℤ} → SFits w16 y → (of_z w16 y ≡ 0 → ⊥) → lt_z (to_z 
 above {y} f n t = positive y (other_bits w16 n) (simp zreads at t)
 
 -- ---- the goals
-pub overflow_cast-n : goal.overflow_cast-n
-overflow_cast-n c = cast_need w16 w32 tt c.ranges.x
-
-pub overflow_mul-n : goal.overflow_mul-n
-overflow_mul-n c = let f = c.ranges.x in simp zreads (scaled f)
-
-pub returns-then-y-eq0 : goal.returns-then-y-eq0
-unfolding div
-returns-then-y-eq0 c =
-    let s = c.before.before in
-    let f = s.ranges.x in
-    let g = scaled f in
-    let y = s.args.y in
-    clamped w16 c.clamp16.type_inv (simp zreads at c.clamp16.ensures) (over_zero (s.args.x *ℤ pos 32768) y (same_bits w16 s.ranges.y (sfits_lit tt) c.before.if-y-eq0.true))
-
-pub overflow_sub-n : goal.overflow_sub-n
-overflow_sub-n c =
-    let f = c.before.before.ranges.x in
-    let g = scaled f in
-    simp zreads (unscaled f)
-
-pub overflow_cast-y : goal.overflow_cast-y
-overflow_cast-y c = cast_need w16 w32 tt c.before.before.ranges.y
-
-pub overflow_sub-y : goal.overflow_sub-y
-overflow_sub-y c = let f = c.before.before.ranges.y in simp zreads (negated f)
-
-pub floor_over-requires : goal.floor_over-requires
-floor_over-requires c =
-    let y = c.before.before.args.y in
-    let f = c.before.before.ranges.y in
-    let g = negated f in
-    let t = simp zreads at c.if-y-lt0.true in
-    simp zreads (omega (zarith, minus (pos 0) y))
-
-pub returns-then-y-lt0 : goal.returns-then-y-lt0
-unfolding div
-returns-then-y-lt0 c =
-    let b = c.before in
-    let s = b.before.before.before in
-    let x = s.args.x in
-    let y = s.args.y in
-    let f = s.ranges.x in
-    let g = scaled f in
-    let h = unscaled f in
-    let i = s.ranges.y in
-    let j = negated i in
-    let t = simp zreads at b.before.if-y-lt0.true in
-    let e = simp zreads at b.floor_over.ensures in
-    clamped w16 c.clamp16-then-y-lt0.type_inv c.clamp16-then-y-lt0.ensures (back w32 b.floor_over.type_inv ∙ e ∙ over_below (x *ℤ pos 32768) y t)
-
-pub overflow_cast-y-2 : goal.overflow_cast-y-2
-overflow_cast-y-2 c = cast_need w16 w32 tt c.before.before.ranges.y
-
-pub floor_over-requires-2 : goal.floor_over-requires-2
-floor_over-requires-2 c = let f = c.ranges.y in simp zreads (above f c.if-y-eq0.false c.if-y-lt0.false)
-
 pub returns : goal.returns
 unfolding div
 returns c =
-    let b = c.before in
-    let s = b.before.before.before in
-    let f = s.ranges.x in
+    let x = c.args.x in
+    let y = c.args.y in
+    let f = c.ranges.x in
     let g = scaled f in
-    let i = s.ranges.y in
-    let e = simp zreads at b.floor_over-2.ensures in
-    clamped w16 c.clamp16-2.type_inv c.clamp16-2.ensures (back w32 b.floor_over-2.type_inv ∙ e ∙ over_above (s.args.x *ℤ pos 32768) s.args.y (above i c.if-y-eq0.false c.if-y-lt0.false))
+    let i = c.ranges.y in
+    let n : c.from-n.result ≡ x = c.from-n.ensures ∙ to_z-of_z f in
+    let d : c.from-d.result ≡ y = c.from-d.ensures ∙ to_z-of_z i in
+    let is : c.from.result ≡ over (x *ℤ pos 32768) y =
+    elim c.if-y-eq0.branch [
+      | then-y-eq0 w ↦
+          c.from.ensures ∙ (simp (n, zreads) at w.quotient-is) ∙ over_zero (x *ℤ pos 32768) y (same_bits w16 i (sfits_lit tt) w.if-y-eq0.true)
+      | else-y-eq0+then-y-lt0 w ↦
+          let h = unscaled f in
+          let j = negated i in
+          let t = simp zreads at w.if-y-lt0.true in
+          let p : pos 0 <ℤ (pos 0 -ℤ y) = omega (zarith, minus (pos 0) y) in
+          let e : w.div_euclid.result ≡ int_div_euclid (pos 0 -ℤ x *ℤ pos 32768) (pos 0 -ℤ y) = simp (n, d, zreads) at w.div_euclid.ensures in
+          c.from.ensures ∙ w.quotient-is ∙ back w32 w.div_euclid.type_inv ∙ e ∙ euclid (pos 0 -ℤ x *ℤ pos 32768) (pos 0 -ℤ y) p ∙ over_below (x *ℤ pos 32768) y t
+      | else-y-eq0+else-y-lt0 w ↦
+          let p = above i w.if-y-eq0.false w.if-y-lt0.false in
+          let e : w.div_euclid-else-y-lt0.result ≡ int_div_euclid (x *ℤ pos 32768) y = simp (n, d, zreads) at w.div_euclid-else-y-lt0.ensures in
+          c.from.ensures ∙ w.quotient-is ∙ back w32 w.div_euclid-else-y-lt0.type_inv ∙ e ∙ euclid (x *ℤ pos 32768) y p ∙ over_above (x *ℤ pos 32768) y p
+    ] in
+    clamped w16 c.nearest.type_inv c.nearest.ensures (back w64 c.from.type_inv ∙ is)

@@ -9,43 +9,41 @@ use Rattle.numbers.specs.Clamp.{clamp}
 use Rattle.numbers.proofs.Parts.{zarith, of, times}
 use Rattle.numbers.proofs.Magnitude.{abs-*-le, fits_abs, abs_fits}
 use Rattle.numbers.proofs.Clamp.{clamp_in}
-use Rattle.numbers.proofs.Read.{back, ranged, same_bits, other_bits, zreads}
+use Rattle.numbers.proofs.Read.{ranged, same_bits, other_bits, zreads}
 use Rattle.operations.specs.Operations.{l_mult}
 use Rattle.operations.proofs.l_mult.Goals as goal
-use Rattle.operations.proofs.l_mult.Goals.{After-product-p, Else-p-eq1073741824}
 
 -- every product is within 2^30 of 0, and the double of each but 2^30 itself fits
 double_fits : (z : ℤ) → nat_abs z ≤ 1073741824 → (z ≡ pos 1073741824 → ⊥) → SFits w32 (z *ℤ pos 2)
 double_fits (pos n) h k = let l : (n ≡ 1073741824 → ⊥) = λ e. k (ap pos e) in omega (zarith, of (pos n), times (pos n) (pos 2))
 double_fits (negsuc n) h k = omega (zarith, of (negsuc n), times (negsuc n) (pos 2))
 
-module _ (c : After-product-p) where
-  is : c.product-p.result ≡ c.before.args.x *ℤ c.before.args.y
-  is = let f = c.before.ranges.x in let g = c.before.ranges.y in simp zreads at c.product-p.ensures
+product_small : (x y : ℤ) → SFits w16 x → SFits w16 y → nat_abs (x *ℤ y) ≤ 1073741824
+product_small x y f g = abs-*-le x y 32768 32768 (fits_abs w16 x f) (fits_abs w16 y g)
 
-  fits : SFits w32 c.product-p.result
-  fits = ranged w32 c.product-p.result c.product-p.type_inv
-
-  small : nat_abs c.product-p.result ≤ 1073741824
-  small = rw is (abs-*-le c.before.args.x c.before.args.y 32768 32768 (fits_abs w16 _ c.before.ranges.x) (fits_abs w16 _ c.before.ranges.y))
-
-double : (c : Else-p-eq1073741824) → SFits w32 (c.before.product-p.result *ℤ pos 2)
-double c = double_fits c.before.product-p.result (small c.before) (other_bits w32 c.if-p-eq1073741824.false)
-
-pub returns-then-p-eq1073741824 : goal.returns-then-p-eq1073741824
-unfolding l_mult
-returns-then-p-eq1073741824 c =
-    let t = c.before in
-    let p = t.before in
-    let e : p.product-p.result ≡ pos 1073741824 = same_bits w32 (fits p) (abs_fits w32 (pos 1073741824) (omega arith)) t.if-p-eq1073741824.true in
-    back w32 c.clamp32.type_inv ∙ c.clamp32.ensures ∙ sym (ap (λ (z : ℤ). clamp w32 (z *ℤ pos 2)) (sym (is p) ∙ e))
+pub returns-then-p : goal.returns-then-p
+unfolding l_mult clamp
+returns-then-p c =
+    let f = c.ranges.x in
+    let g = c.ranges.y in
+    let is : c.product-p.result ≡ c.args.x *ℤ c.args.y = simp zreads at c.product-p.ensures in
+    let e : c.product-p.result ≡ pos 1073741824 = same_bits w32 (ranged w32 c.product-p.result c.product-p.type_inv) (abs_fits w32 (pos 1073741824) (omega arith)) c.if-p.true in
+    ap (λ (z : ℤ). clamp w32 (z *ℤ pos 2)) (sym e ∙ is)
 
 pub overflow_mul-result : goal.overflow_mul-result
-overflow_mul-result c = let f = fits c.before in simp zreads (double c)
+overflow_mul-result c =
+    let f = c.ranges.x in
+    let g = c.ranges.y in
+    let is : c.product-p.result ≡ c.args.x *ℤ c.args.y = simp zreads at c.product-p.ensures in
+    let h = ranged w32 c.product-p.result c.product-p.type_inv in
+    simp zreads (double_fits c.product-p.result (rw is (product_small c.args.x c.args.y f g)) (other_bits w32 c.if-p.false))
 
-pub returns : goal.returns
+pub returns-else-p : goal.returns-else-p
 unfolding l_mult
-returns c =
-    let f = fits c.before in
-    let g = double c in
-    simp zreads (sym (ap (λ (z : ℤ). clamp w32 (z *ℤ pos 2)) (sym (is c.before)) ∙ clamp_in w32 _ g))
+returns-else-p c =
+    let f = c.ranges.x in
+    let g = c.ranges.y in
+    let is : c.product-p.result ≡ c.args.x *ℤ c.args.y = simp zreads at c.product-p.ensures in
+    let h = ranged w32 c.product-p.result c.product-p.type_inv in
+    let d = double_fits c.product-p.result (rw is (product_small c.args.x c.args.y f g)) (other_bits w32 c.if-p.false) in
+    simp zreads (sym (clamp_in w32 _ d) ∙ ap (λ (z : ℤ). clamp w32 (z *ℤ pos 2)) is)

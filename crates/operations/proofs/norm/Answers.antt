@@ -7,12 +7,12 @@ use lib.Count.{count_leading_zeros, leading_le}
 use lib.IntN.{ℤ, nat_abs, pos, negsuc}
 use mir.Syntax.{w16, w32}
 use mir.Val.{SFits}
-use mir.Facts.{to_z_pos, to_z-of_z}
+use mir.Facts.{to_z_pos}
 use Rattle.numbers.proofs.Magnitude.{fits_abs}
+use Rattle.numbers.proofs.Read.{zreads}
 use Rattle.operations.specs.Operations.{norm}
 use Rattle.operations.proofs.Normal.{norm_zero, norm_least}
 use Rattle.operations.proofs.norm.Goals as goal
-use Rattle.operations.proofs.norm.Goals.{After-magnitude-m}
 
 -- ---- over plain numbers
 
@@ -48,20 +48,16 @@ some_left z f h = by z h ∙ ap pos (sym (moved_zeros 31 (nat_abs z) (up (nat_ab
     by (negsuc n) h = refl
 
 -- ---- the goals
-is : (c : After-magnitude-m) → up c.magnitude-m.result ≡ up (nat_abs c.before.args.x)
-is c = ap (λ (a : ℕ). up a) (c.magnitude-m.ensures ∙ ap nat_abs (to_z-of_z c.before.ranges.x))
-
 pub returns-then-m-eq0 : goal.returns-then-m-eq0
 returns-then-m-eq0 c =
-    let b = c.before in
-    sym (nothing_left b.before.args.x b.before.ranges.x (sym (is b) ∙ c.if-m-eq0.true))
+    let f = c.ranges.x in
+    let is : c.magnitude-m.result ≡ nat_abs c.args.x = simp zreads at c.magnitude-m.ensures in
+    sym (nothing_left c.args.x f (ap (λ (a : ℕ). up a) (sym is) ∙ c.if-m-eq0.true))
 
-pub overflow_cast-result : goal.overflow_cast-result
-overflow_cast-result c = record { sfits = count_fits _ }
-
-pub returns : goal.returns
-returns c =
-    let b = c.before in
+pub returns-else-m-eq0 : goal.returns-else-m-eq0
+returns-else-m-eq0 c =
+    let f = c.ranges.x in
+    let is : c.magnitude-m.result ≡ nat_abs c.args.x = simp zreads at c.magnitude-m.ensures in
     to_z_pos w16 (count_fits _)
-    ∙ ap (λ (a : ℕ). pos (count_leading_zeros 32 a)) (is b)
-    ∙ sym (some_left b.before.args.x b.before.ranges.x (omega (arith, is b, c.if-m-eq0.false)))
+    ∙ ap (λ (a : ℕ). pos (count_leading_zeros 32 (up a))) is
+    ∙ sym (some_left c.args.x f (rw (sym is) (omega (arith, c.if-m-eq0.false))))

@@ -1,7 +1,10 @@
--- `rows::four` takes the lags in their order. Assumes nothing.
-use Rattle.rows.specs.Rows.{row, first_of}
+-- `rows::four` takes the entries in their order. Assumes nothing.
+use borrow.Author.Rules.{rules}
+use lib.ListN.{get_or}
+use Rattle.rows.specs.Rows.{first_of}
+use Rattle.rows.proofs.Made.{made}
 use Rattle.rows.proofs.four.Goals as goal
 
 pub returns : goal.returns
-unfolding first_of row
-returns c = rw (c.before.before.before.lag_at.ensures, c.before.before.lag_at-2.ensures, c.before.lag_at-3.ensures, c.lag_at-4.ensures)
+unfolding first_of
+returns c = made _ (λ i. get_or c.args.from.now i 0) _ 4 (λ i y q l k. search rules) _ c.from_fn.ensures.items

@@ -9,16 +9,15 @@ use Rattle.runner.proofs.Steps.{said_no, said_ok}
 use Rattle.runner.proofs.answer.Goals as goal
 
 pub returns-in-Err : goal.returns-in-Err
-unfolding denied_of
 returns-in-Err c =
     let d = decoded_err c.args.line.now _ c.in-Err.ensures in
-    ap (λ (k : ℕ). denied_of k c.args.s) (c.number.ensures.value ∙ d.0) ∙ sym (said_no c.args.s c.args.line.now d.1)
+    c.denied.ensures ∙ ap (λ (k : ℕ). denied_of k c.args.s) (c.number.ensures.value ∙ d.0) ∙ sym (said_no c.args.s c.args.line.now d.1)
 
 pub returns-in-Ok : goal.returns-in-Ok
-unfolding stepped_of accepted_of
+unfolding accepted_of
 returns-in-Ok c =
     let s = c.args.s in
     let d = decoded_ok c.args.line.now c.in-Ok.frame c.in-Ok.ensures in
     let f : SFits w16 c.in-Ok.frame.scale = search rules in
-    let r = simp zreads at c.step-r.ensures in
-    ap stepped_of (r ∙ ap (λ (x : Decoded). step_of x.acf x.lags x.scale s) d.1) ∙ sym (said_ok s c.args.line.now d.0)
+    let r = simp zreads at c.step.ensures in
+    c.stepped.ensures ∙ ap stepped_of (r ∙ ap (λ (x : Decoded). step_of x.acf x.lags x.scale s) d.1) ∙ sym (said_ok s c.args.line.now d.0)

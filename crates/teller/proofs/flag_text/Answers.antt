@@ -7,7 +7,7 @@ use Rattle.why.specs.Fits.{flag_case}
 use Rattle.teller.specs.Decimal.{decimal_of}
 use Rattle.teller.specs.Words.{flag_word, values_text, flag_text}
 use Rattle.teller.proofs.Puts.{room_as, puts_as, room_first, room_second, puts_both}
-use Rattle.teller.proofs.Texts.{hangover, hangover_text}
+use Rattle.teller.specs.Laws.{hangover, hangover_text}
 use Rattle.teller.proofs.flag_text.Goals as goal
 use Rattle.teller.proofs.flag_text.Goals.{In-Hangover}
 

@@ -12,7 +12,7 @@ use Rattle.why.specs.Fits.{way_case}
 use Rattle.teller.specs.Decimal.{decimal_of}
 use Rattle.teller.specs.Words.{way_word, values_text, way_text}
 use Rattle.teller.proofs.Puts.{room_as, puts_as, room_first, room_second, puts_both}
-use Rattle.teller.proofs.Texts.{waiting, waiting_text}
+use Rattle.teller.specs.Laws.{waiting, waiting_text}
 use Rattle.teller.proofs.way_text.Goals as goal
 use Rattle.teller.proofs.way_text.Goals.{After-magnitude, In-Waiting}
 

@@ -1,15 +1,15 @@
 -- `tone::acfh` gives one autocorrelation: after j turns the sum is the exact one of j products, and at the end it is doubled. Assumes nothing.
+use Rattle.std.proofs.Common.{rules}
 use mathlib.Core.Path.{◌≡◌, refl, sym, ap, ap₂, subst, ◌∙◌}
 use mathlib.Core.List.{List}
 use Prim.Native.Nat.{ℕ, ◌+◌, ◌-◌}
 use native.Mathlib.Numerals.{add-one}
 use native.Mathlib.Omega.{arith}
 use lib.IntN.{ℤ, pos, ◌+ℤ◌, ◌*ℤ◌}
-use mir.Syntax.{w16, w32}
+use mir.Syntax.{w32}
 use mir.Val.{SFits, to_z, of_z}
 use mir.Facts.{to_z-of_z}
-use Rattle.numbers.specs.Sum.{at, sum}
-use Rattle.numbers.proofs.Read.{back, ranged, zreads}
+use Rattle.numbers.specs.Sum.{sum}
 use Rattle.tone.proofs.Exact.{term, sum_fits, double_fits, acfh_exact}
 use Rattle.tone.proofs.acfh.Goals as goal
 use Rattle.tone.proofs.acfh.Goals.{After-loop-j, After-product-s, At-loop-j, Start}
@@ -29,11 +29,7 @@ module _ (c : After-product-s) where
   j = head.loop-j.j
 
   product_is : to_z w32 (of_z w32 c.product-s.result) ≡ term l k j
-  product_is =
-      let f = ranged w16 (at l (j + k)) c.product-arg-1.given in
-      let g = ranged w16 (at l j) c.product-arg-in-loop-j-1.given in
-      let e : c.product-s.result ≡ term l k j = simp zreads at c.product-s.ensures in
-      back w32 c.product-s.type_inv ∙ e
+  product_is = search (rules, to_z-of_z)
 
   one_more : to_z w32 head.loop-j.s-bits +ℤ to_z w32 (of_z w32 c.product-s.result) ≡ sum (j + 1) (term l k)
   unfolding sum

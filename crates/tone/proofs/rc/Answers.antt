@@ -1,52 +1,30 @@
 -- `tone::rc` gives the reflection coefficients: of five autocorrelations, which the recursion takes as the first of nine. Assumes nothing.
+use Rattle.std.proofs.Common.{rules, arith, of_calls}
 use mathlib.Core.Path.{◌≡◌, refl, ap, ◌∙◌}
-use mathlib.Core.List.{List, [], ◌∷◌}
 use Prim.Native.Nat.{ℕ}
-use native.Mathlib.Omega.{arith}
+use lib.Dec.{leb}
 use lib.IntN.{ℤ, pos}
-use mir.Syntax.{w32}
-use Rattle.numbers.proofs.Read.{back}
+use mir.Facts.{to_z-of_z}
+use Rattle.rows.specs.Choice.{IF◌THEN◌ELSE◌}
 use Rattle.rows.specs.Rows.{row}
+use Rattle.rows.proofs.Made.{made}
 use Rattle.predictor.specs.Schur.{sacf_of, reflection_of}
 use Rattle.tone.specs.Autocorrelation.{l_acfh_of}
 use Rattle.tone.specs.Coefficients.{rc_of}
 use Rattle.tone.proofs.rc.Goals as goal
 
--- five numbers and four zeros
-abbrev nine : ℤ → ℤ → ℤ → ℤ → ℤ → List ℤ
-nine a b c d e = a ∷ b ∷ c ∷ d ∷ e ∷ pos 0 ∷ pos 0 ∷ pos 0 ∷ pos 0 ∷ []
-
-each : {a b c d e : ℤ} (f : ℕ → ℤ) → a ≡ f 0 → b ≡ f 1 → c ≡ f 2 → d ≡ f 3 → e ≡ f 4 → nine a b c d e ≡ nine (f 0) (f 1) (f 2) (f 3) (f 4)
-each f p q r s t = rw (p, q, r, s, t)
+-- the five, and four zeros
+abbrev nine : (ℕ → ℤ) → ℕ → ℤ
+nine f k = IF leb k 4 THEN f k ELSE pos 0
 
 -- what is past the five is 0 either way
-padded : (f : ℕ → ℤ) → reflection_of 4 (nine (f 0) (f 1) (f 2) (f 3) (f 4)) ≡ reflection_of 4 (row 5 f)
-unfolding reflection_of row sacf_of
+padded : (f : ℕ → ℤ) → reflection_of 4 (row 9 (nine f)) ≡ reflection_of 4 (row 5 f)
+unfolding reflection_of row sacf_of IF◌THEN◌ELSE◌
 padded f = refl
 
-pub acfh-requires : goal.acfh-requires
-acfh-requires c = (omega arith, c.requires)
-
-pub acfh-requires-2 : goal.acfh-requires-2
-acfh-requires-2 c = (omega arith, c.requires)
-
-pub acfh-requires-3 : goal.acfh-requires-3
-acfh-requires-3 c = (omega arith, c.requires)
-
-pub acfh-requires-4 : goal.acfh-requires-4
-acfh-requires-4 c = (omega arith, c.requires)
-
-pub acfh-requires-5 : goal.acfh-requires-5
-acfh-requires-5 c = (omega arith, c.requires)
-
 pub returns : goal.returns
-unfolding rc_of
+unfolding rc_of IF◌THEN◌ELSE◌
 returns c =
-    let e = c.before in
-    let d = e.before.before in
-    let b = d.before.before in
-    let a = b.before.before in
-    let z = a in
-    let f = l_acfh_of z.args.sofh in
-    let l = each f (back w32 z.acfh.type_inv ∙ z.acfh.ensures) (back w32 a.acfh-2.type_inv ∙ a.acfh-2.ensures) (back w32 b.acfh-3.type_inv ∙ b.acfh-3.ensures) (back w32 d.acfh-4.type_inv ∙ d.acfh-4.ensures) (back w32 e.acfh-5.type_inv ∙ e.acfh-5.ensures) in
-    c.reflection.ensures ∙ (ap (reflection_of 4) l ∙ padded f)
+    let f = l_acfh_of c.args.sofh in
+    let e = made _ (nine f) _ 9 (λ i y q u k. (grind (arith, to_z-of_z), search (rules, of_calls))) _ c.from_fn.ensures.items in
+    c.reflection.ensures ∙ (ap (reflection_of 4) e ∙ padded f)

@@ -1,9 +1,8 @@
 -- `tone::scaled` gives the scaled samples: the loop fills them from the front. Assumes nothing.
-use borrow.Author.Rules.{rules}
+use Rattle.std.proofs.Common.{rules, arith}
 use mathlib.Core.Path.{◌≡◌, refl, sym, ap, subst, ◌∙◌}
 use mathlib.Core.Bool.{true}
 use Prim.Native.Nat.{ℕ, ◌≤◌}
-use native.Mathlib.Omega.{arith}
 use lib.IntN.{ℤ, nat_abs, pos, ◌-ℤ◌}
 use lib.ListN.{length-set}
 use lib.Signed.{lt_z}
@@ -12,11 +11,11 @@ use mir.Val.{SFits, to_z, of_z}
 use mir.Facts.{to_z-of_z}
 use Rattle.numbers.specs.Sum.{at}
 use Rattle.numbers.proofs.Parts.{zarith, of, sign, minus}
-use Rattle.numbers.proofs.Read.{back}
 use Rattle.operations.specs.Operations.{sub, mult_r, ◌>>ₛ◌}
 use Rattle.operations.proofs.Laws.{sub_exact}
+use Rattle.rows.specs.Choice.{IF◌THEN◌ELSE◌}
 use Rattle.rows.specs.Rows.{row}
-use Rattle.rows.proofs.Choice.{by_yes, by_no}
+use Rattle.rows.proofs.Choice.{by_yes}
 use Rattle.rows.proofs.Fill.{fill_more, fill_all}
 use Rattle.tone.specs.Autocorrelation.{scaled_of}
 use Rattle.tone.proofs.scaled.Goals as goal
@@ -53,35 +52,23 @@ module _ (c : Then-scalauto-gt0) where
       ap (λ (z : ℤ). pos (nat_abs z)) less_is
       ∙ (let e : pos (nat_abs less) ≡ less = omega (zarith, of less, sign less, minus x (pos 1), some) in e ∙ sym (sub_exact x (pos 1) fits))
 
-pub overflow_sub-n : goal.overflow_sub-n
-overflow_sub-n c = subst (λ (z : ℤ). SFits w16 (z -ℤ pos 1)) (sym (to_z-of_z c.ranges.scalauto)) (fits c)
-
-pub overflow_cast-n : goal.overflow_cast-n
-overflow_cast-n c = rw (less_is c) (omega (zarith, minus (x c) (pos 1), some c), record { fits = omega (arith, few c) })
-
 pub loop-k-init : goal.loop-k-init
 unfolding row
 loop-k-init c = (omega arith, search rules, search rules, few_bits c, refl)
 
 pub loop-k-preserved : goal.loop-k-preserved
 loop-k-preserved c =
-    let a = c.before in
-    let t = a.before.before in
-    let k = t.loop-k.k in
-    let m = n t.before in
-    let sofh = t.args.sofh in
-    let e : c.halved.result ≡ mult_r (at sofh k) (pos 16384 >>ₛ pos m) = c.halved.ensures ∙ ap (λ (z : ℤ). mult_r z (pos 16384 >>ₛ pos m)) (back w16 a.halved-arg-1.given) in
-    (omega arith, simp length-set t.loop-k.invariant.1, t.loop-k.invariant.2, t.loop-k.invariant.3, fill_more _ (λ i. mult_r (at sofh i) (pos 16384 >>ₛ pos m)) k _ (omega arith) t.loop-k.invariant.4 (back w16 c.halved.type_inv ∙ e))
+    let t = c.loop-k in
+    (omega arith, simp length-set t.invariant.1, t.invariant.2, t.invariant.3, fill_more _ _ t.k _ (omega arith) t.invariant.4 (search (rules, to_z-of_z)))
 
 pub returns-after-loop-k : goal.returns-after-loop-k
 unfolding scaled_of
 returns-after-loop-k c =
-    let t = c.before in
-    let h = t.before in
-    let sofh = h.args.sofh in
-    fill_all _ (λ i. mult_r (at sofh i) (pos 16384 >>ₛ pos (n h))) 160 t.loop-k.k t.loop-k.invariant.1 (omega arith) t.loop-k.invariant.4
+    let h = (goal.at.returns-after-loop-k c).Then-scalauto-gt0 in
+    let sofh = c.args.sofh in
+    fill_all _ (λ i. mult_r (at sofh i) (pos 16384 >>ₛ pos (n h))) 160 c.loop-k.k c.loop-k.invariant.1 (omega arith) c.loop-k.invariant.4
     ∙ (ap (λ (z : ℤ). row 160 (λ i. mult_r (at sofh i) (pos 16384 >>ₛ z))) (amount_is h) ∙ sym (by_yes _ _ (some h)))
 
 pub returns-else-scalauto-gt0 : goal.returns-else-scalauto-gt0
-unfolding scaled_of
-returns-else-scalauto-gt0 c = sym (by_no _ _ (ap (lt_z (pos 0)) (sym (to_z-of_z c.ranges.scalauto)) ∙ c.if-scalauto-gt0.false))
+unfolding scaled_of IF◌THEN◌ELSE◌
+returns-else-scalauto-gt0 c = search (rules, to_z-of_z)

@@ -1,14 +1,12 @@
 -- `tone::sofh` gives the windowed samples: each loop fills its half from the front. Assumes nothing.
 use borrow.Author.Rules.{rules}
 use borrow.Author.Tests.{lt-ltb, le-ltb}
-use mathlib.Core.Path.{◌≡◌, refl, sym, ap₂, subst, ◌∙◌}
+use mathlib.Core.Path.{◌≡◌, refl, sym, subst}
 use Prim.Native.Nat.{ℕ, ◌-◌, ◌<◌, ◌≤◌}
 use native.Mathlib.Omega.{arith}
 use lib.ListN.{take, length-set}
-use mir.Syntax.{w16}
 use Rattle.numbers.specs.Sum.{at}
-use Rattle.numbers.proofs.Read.{back}
-use Rattle.operations.specs.Operations.{mult_r}
+use mir.Facts.{to_z-of_z}
 use Rattle.rows.specs.Rows.{row}
 use Rattle.rows.proofs.Choice.{by_yes, by_no}
 use Rattle.rows.proofs.Fill.{fill_more, fill_all}
@@ -31,12 +29,9 @@ loop-i-init c = (omega arith, search rules, refl)
 pub loop-i-preserved : goal.loop-i-preserved
 unfolding hann
 loop-i-preserved c =
-    let a = c.before.before in
-    let t = a in
-    let i = t.loop-i.i in
-    let sof = t.args.sof.now in
-    let e : c.mult_r.result ≡ entry sof i = c.mult_r.ensures ∙ ap₂ mult_r (back w16 a.mult_r-arg-1.given) (back w16 c.mult_r-arg-in-loop-i-1.given ∙ first i (omega arith)) in
-    (omega arith, simp length-set t.loop-i.invariant.1, fill_more _ (entry sof) i _ (omega arith) t.loop-i.invariant.2 (back w16 c.mult_r.type_inv ∙ e))
+    let t = c.loop-i in
+    let w = first t.i (omega arith) in
+    (omega arith, simp length-set t.invariant.1, fill_more _ (entry c.args.sof.now) t.i _ (omega arith) t.invariant.2 (search (rules, to_z-of_z)))
 
 pub loop-i-2-init : goal.loop-i-2-init
 loop-i-2-init c =
@@ -47,12 +42,9 @@ loop-i-2-init c =
 pub loop-i-2-preserved : goal.loop-i-2-preserved
 unfolding hann
 loop-i-2-preserved c =
-    let a = c.before.before in
-    let t = a in
-    let i = t.loop-i-2.i in
-    let sof = t.args.sof.now in
-    let e : c.mult_r-in-loop-i-2.result ≡ entry sof i = c.mult_r-in-loop-i-2.ensures ∙ ap₂ mult_r (back w16 a.mult_r-arg-in-loop-i-2-1.given) (back w16 c.mult_r-arg-in-loop-i-2-2-1.given ∙ second i (omega arith)) in
-    (omega arith, omega arith, simp length-set t.loop-i-2.invariant.2, fill_more _ (entry sof) i _ (omega arith) t.loop-i-2.invariant.3 (back w16 c.mult_r-in-loop-i-2.type_inv ∙ e))
+    let t = c.loop-i-2 in
+    let w = second t.i (omega arith) in
+    (omega arith, omega arith, simp length-set t.invariant.2, fill_more _ (entry c.args.sof.now) t.i _ (omega arith) t.invariant.3 (search (rules, to_z-of_z)))
 
 pub returns : goal.returns
 unfolding sofh_of

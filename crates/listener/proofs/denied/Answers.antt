@@ -1,0 +1,8 @@
+-- `listener::denied` answers with the number, and keeps the state. Assumes nothing.
+use Rattle.std.proofs.Common.{refl}
+use Rattle.listener.specs.Said.{denied_of}
+use Rattle.listener.proofs.denied.Goals as goal
+
+pub returns : goal.returns
+unfolding denied_of
+returns c = refl

@@ -1,8 +1,0 @@
--- `rows::long_at` reads the number, or answers 0. Assumes nothing.
-use mathlib.Core.Path.{sym}
-use lib.IntN.{pos}
-use lib.ListN.{get_or-eq_default}
-use Rattle.rows.proofs.long_at.Goals as goal
-
-pub returns-else-i-from : goal.returns-else-i-from
-returns-else-i-from c = sym (get_or-eq_default c.before.args.from.now (pos 0) c.if-i-from.false)
