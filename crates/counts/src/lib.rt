@@ -54,13 +54,11 @@ fn more(t: Totals, r: Reply) -> Totals
     n.accepted += 1;
     if r.vvad {
         n.speech += 1;
-        return n;
-    }
-    if r.vad {
+    } else if r.vad {
         n.held += 1;
-        return n;
+    } else {
+        n.quiet += 1;
     }
-    n.quiet += 1;
     n
 }
 

@@ -49,7 +49,7 @@ fn is_hex(b: u8) -> bool
     figure | letter
 }
 
-// What a digit is worth: 65 is A, and 65 % 16 + 9 is 10.
+// What a digit is worth, with no branch, for speed: 65 is A, and 65 % 16 + 9 is 10.
 fn worth(b: u8) -> u8
     requires { hex.hex_of b ≡ true }
     ensures { result ≡ hex.value_of b }
@@ -81,7 +81,7 @@ fn number(digits: &[u8; 8]) -> u32
     ((halves * 0x1_0000 + halves / 0x1_0000_0000) & 0xffff_ffff) as u32
 }
 
-// The lowest digits of a number, as many as are wanted.
+// The lowest digits of a number, as many as are wanted. They are stored by index, since a proof learns nothing of what is written through an iterator.
 fn written<const K: usize>(x: u32) -> [u8; K]
     ensures { result ≡ hex.digits_of K x }
 {
@@ -125,7 +125,7 @@ impl<'a> Formed<'a> {
         if ok { Some(Formed { line }) } else { None }
     }
 
-    // Its nine numbers.
+    // Its nine numbers, stored by index for the same reason.
     fn acf(self) -> [i32; 9]
         ensures { result ≡ row 9 (trace.word_at self.entry.line.now) }
     {

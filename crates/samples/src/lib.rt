@@ -18,7 +18,8 @@ pub struct Samples {
     pub sof: [i16; FRAME_SAMPLES],
 }
 
-// What is read of the bytes of one frame. A loop that never leaves is done many samples at a time.
+// What is read of the bytes of one frame. A loop that never leaves is done many samples at a time; it stores by index, since a proof learns nothing of what is
+// written through an iterator.
 pub fn read(bytes: &[u8]) -> Samples
     ensures { result ≡ meaning.read_of bytes.now }
 {

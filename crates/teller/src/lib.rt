@@ -74,20 +74,15 @@ pub fn tell(h: Hearing, block: &[u8], line: &[u8]) -> Told
     match lines::decode(line) {
         Ok(frame) => {
             let heard = samples::read(block);
+            let sof = heard.sof;
             let direction = if h.downlink {
-                Direction::Downlink(&heard.sof[..heard.count])
+                Direction::Downlink(&sof[..heard.count])
             } else {
                 Direction::Uplink
             };
             sent(
                 h.downlink,
-                why::explain(
-                    direction,
-                    h.explainer,
-                    &frame.acf,
-                    &frame.lags,
-                    frame.scale,
-                ),
+                why::explain(direction, h.explainer, &frame.acf, &frame.lags, frame.scale),
             )
         }
         Err(refusal) => Told {

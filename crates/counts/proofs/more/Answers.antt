@@ -26,8 +26,8 @@ overflow_add-n-then-r-2 c = let h = room _ c.requires in search rules
 pub returns-then-r-2 : goal.returns-then-r-2
 returns-then-r-2 c = plus_held _ _ (omega arith) c.if-r.false c.if-r-2.true
 
-pub overflow_add-n-3 : goal.overflow_add-n-3
-overflow_add-n-3 c = let h = room _ c.requires in search rules
+pub overflow_add-n-else-r-2 : goal.overflow_add-n-else-r-2
+overflow_add-n-else-r-2 c = let h = room _ c.requires in search rules
 
-pub returns : goal.returns
-returns c = plus_quiet _ _ (omega arith) c.if-r.false c.if-r-2.false
+pub returns-else-r-2 : goal.returns-else-r-2
+returns-else-r-2 c = plus_quiet _ _ (omega arith) c.if-r.false c.if-r-2.false

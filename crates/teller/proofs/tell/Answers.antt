@@ -2,13 +2,14 @@
 use borrow.Author.Rules.{rules}
 use mathlib.Core.Path.{◌≡◌, sym, ap, ◌∙◌}
 use mathlib.Core.List.{List}
-use mathlib.Core.Bool.{Bool}
 use Prim.Native.Nat.{ℕ}
 use native.Mathlib.Omega.{arith}
 use lib.ListN.{take}
+use lib.IntN.{ℤ}
 use mir.Syntax.{w16}
 use mir.Val.{SFits}
 use Rattle.numbers.proofs.Read.{zreads}
+use mathlib.Core.Bool.{Bool}
 use Rattle.frames.specs.Frame.{Direction, down, direction_of}
 use Rattle.frames.specs.Direction.{direction_in}
 use Rattle.lines.specs.Answers.{Decoded, accepted_of}
@@ -49,20 +50,15 @@ way_is c =
       | else-h w ↦ ap direction_in w.direction-is ∙ ap (λ (b : Bool). direction_by b c.args.block.now) (sym w.if-h.false)
     ]
 
--- the reasons of what was read
-explain_is : (c : After-explain)
-    → explained_in c.explain.result ≡ explained_for (direction_by c.args.h.downlink c.args.block.now) c.args.h.explainer c.in-Ok.frame.acf c.in-Ok.frame.lags c.in-Ok.frame.scale
-explain_is c =
-    let r = c.in-Ok.frame in
-    let f : SFits w16 c.in-Ok.frame.scale = search rules in
-    let e : explained_in c.explain.result ≡ explained_for (direction_in c.if-h.direction) c.args.h.explainer r.acf r.lags r.scale = simp zreads at c.explain.ensures.value in
-    e ∙ ap (λ (d : Direction). explained_for d c.args.h.explainer r.acf r.lags r.scale) (way_is c)
-
-pub returns-in-Ok : goal.returns-in-Ok
+pub returns-after-h : goal.returns-after-h
 unfolding accepted_of
-returns-in-Ok c =
-    let d = decoded_ok c.args.line.now c.in-Ok.frame c.in-Ok.ensures in
+returns-after-h c =
     let h = c.args.h in
+    let a = c.in-Ok.frame in
+    let d = decoded_ok c.args.line.now a c.in-Ok.ensures in
+    let f : SFits w16 a.scale = search rules in
+    let e : explained_in c.explain.result ≡ explained_for (direction_in c.if-h.direction) h.explainer a.acf a.lags a.scale = simp zreads at c.explain.ensures.value in
+    let g = e ∙ ap (λ (x : Direction). explained_for x h.explainer a.acf a.lags a.scale) (way_is (goal.at.returns-after-h c).After-explain) in
     c.sent.ensures
-    ∙ ap (sent_of h.downlink) (explain_is (goal.at.returns-in-Ok c).After-explain ∙ ap (λ (x : Decoded). explained_for (direction_by h.downlink c.args.block.now) h.explainer x.acf x.lags x.scale) d.1)
+    ∙ ap (sent_of h.downlink) (g ∙ ap (λ (x : Decoded). explained_for (direction_by h.downlink c.args.block.now) h.explainer x.acf x.lags x.scale) d.1)
     ∙ sym (told_ok h c.args.block.now c.args.line.now d.0)
