@@ -26,26 +26,7 @@ pub type Night = Player<Tally>;
 
 // ---- a night in pieces
 
-// Answers a line and counts the answer.
-fn tallied(t: Tally, line: &[u8]) -> Tally
-    ensures { result ≡ piece.tallied_of t line.now }
-{
-    let state = t.state;
-    let a = runner::answer(state, line);
-    let reply = a.reply;
-    let before = t.counted;
-    let counted = count(before, reply);
-    if counted.refusal != 0 {
-        return Tally { counted, state };
-    }
-    let next = a.next;
-    Tally {
-        counted,
-        state: next,
-    }
-}
-
-// What is counted is not written.
+// A line is answered, and its answer counted and not written.
 impl Hearer for Tally {
     const MOST: usize = 0;
 
@@ -56,7 +37,12 @@ impl Hearer for Tally {
     ghost text = { hears.text_of };
 
     fn hear(&mut self, _block: &[u8], line: &[u8], _out: &mut [u8], at: usize) -> usize {
-        *self = tallied(*self, line);
+        let said = runner::answer(self.state, line);
+        self.counted = count(self.counted, said.reply);
+        if self.counted.refusal != 0 {
+            return at;
+        }
+        self.state = said.next;
         at
     }
 
