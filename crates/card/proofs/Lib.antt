@@ -2,3 +2,4 @@ pub mod Orders
 pub mod Shared
 pub mod Histories
 pub mod Asked
+pub mod Results

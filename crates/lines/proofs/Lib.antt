@@ -9,3 +9,4 @@ pub mod RoundTrip
 pub mod Malformed
 pub mod Whole
 pub mod Frames
+pub mod Results
