@@ -16,7 +16,7 @@ use Rattle.player.specs.declared.Player.{Player}
 use Rattle.player.specs.Played as played
 use Rattle.player.proofs.Calls as player
 use Rattle.teller.specs.declared.Hearing.{Hearing}
-use Rattle.teller.specs.declared.Told.{Told}
+use Rattle.teller.specs.Told.{Told}
 use Rattle.teller.specs.Words.{text_of, most}
 use Rattle.teller.specs.Run as run
 use Rattle.teller.specs.Run.{denied_of, next_of, line_text, cut_of, texts_of, tell_of}

@@ -11,11 +11,11 @@ use Rattle.lines.specs.Answers.{decoded_of}
 use Rattle.pieces.specs.Pieces.{state_after}
 use Rattle.samples.specs.Samples.{frame_bytes}
 use Rattle.samples.specs.Beside.{block_of, next_beside}
-use Rattle.why.specs.declared.Why.{Why}
+use Rattle.why.specs.Why.{Why}
 use Rattle.why.specs.declared.Explainer.{Explainer}
 use Rattle.why.specs.Asked.{explained_to, explainer_from, told}
 use Rattle.teller.specs.declared.Hearing.{Hearing}
-use Rattle.teller.specs.declared.Told.{Told}
+use Rattle.teller.specs.Told.{Told}
 use Rattle.teller.specs.Run.{sent_of, denied_of, told_of, next_of, hearing_of, start_of}
 use Rattle.teller.specs.Frames.{frame_in, frames_of}
 use Rattle.teller.proofs.Steps.{told_no, told_ok}

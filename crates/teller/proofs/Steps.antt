@@ -10,10 +10,10 @@ use Rattle.rows.proofs.Choice.{by_yes, by_no}
 use Rattle.lines.specs.Answers.{Decoded, decoded_of, refused_of}
 use Rattle.lines.proofs.Malformed.{decoded_cut}
 use Rattle.pieces.specs.Lines.{plain_of}
-use Rattle.why.specs.declared.Why.{Why}
+use Rattle.why.specs.Why.{Why}
 use Rattle.why.specs.Explain.{explained_for}
 use Rattle.teller.specs.declared.Hearing.{Hearing}
-use Rattle.teller.specs.declared.Told.{Told}
+use Rattle.teller.specs.Told.{Told}
 use Rattle.teller.specs.Decimal.{decimal_from, decimal_of}
 use Rattle.teller.specs.Words.{text_of}
 use Rattle.teller.specs.Run.{direction_by, sent_of, denied_of, told_of}

@@ -3,7 +3,7 @@ use mathlib.Core.List.{List, [], ◌∷◌, ◌++◌}
 use Prim.Native.Nat.{ℕ, ◌+◌, ◌≤◌}
 use lib.ListN.{length}
 use Rattle.why.specs.declared.Reasons.{Reasons}
-use Rattle.why.specs.declared.Why.{Why}
+use Rattle.why.specs.Why.{Why}
 use Rattle.teller.specs.Decimal.{decimal_of}
 use Rattle.teller.specs.Words.{refused, flag_text, way_text, reasons_text, text_of}
 use Rattle.teller.proofs.Puts.{Puts, room_first, room_second, puts_both}

@@ -10,11 +10,11 @@ use Rattle.lines.proofs.Malformed.{decoded_short}
 use Rattle.pieces.specs.Lines.{short}
 use Rattle.threshold.specs.declared.Way.{Way}
 use Rattle.why.specs.declared.Flag.{Flag}
-use Rattle.why.specs.declared.Why.{Why}
+use Rattle.why.specs.Why.{Why}
 use Rattle.why.specs.Fits.{flag_case, way_case}
 use Rattle.why.proofs.Range.{WaitingIn, WhyIn, explained_in}
 use Rattle.teller.specs.declared.Hearing.{Hearing}
-use Rattle.teller.specs.declared.Told.{Told}
+use Rattle.teller.specs.Told.{Told}
 use Rattle.teller.specs.Decimal.{decimal_from, decimal_of}
 use Rattle.teller.specs.Words.{flag_word, way_word, values_text, flag_text, way_text, reasons_text, text_of, most}
 use Rattle.teller.specs.Run.{direction_by, sent_of, denied_of, told_of, next_of, line_text}

@@ -1,5 +1,6 @@
 pub mod Decimal
 pub mod Words
+pub mod Told
 pub mod Run
 pub mod Frames
 pub mod Laws

@@ -9,12 +9,12 @@ use Rattle.pieces.specs.Lines.{lines_of}
 use Rattle.pieces.specs.Pieces.{state_after, text_after}
 use Rattle.samples.specs.Samples.{sof_of}
 use Rattle.samples.specs.Beside.{Beside, next_beside, text_beside}
-use Rattle.why.specs.declared.Why.{Why}
+use Rattle.why.specs.Why.{Why}
 use Rattle.why.specs.Explained.{Explained}
 use Rattle.why.specs.Explain as why
 use Rattle.why.specs.Explain.{explained_for}
 use Rattle.teller.specs.declared.Hearing.{Hearing}
-use Rattle.teller.specs.declared.Told.{Told}
+use Rattle.teller.specs.Told.{Told}
 use Rattle.teller.specs.Words.{text_of}
 
 -- the direction of a line's frame: where the trace goes down, with the samples that its bytes hold

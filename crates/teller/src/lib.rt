@@ -3,9 +3,11 @@
 
 ghost use Rattle.std.specs.Prelude.{◌≡◌, ◌+◌, ◌≤◌, length, drop};
 ghost use Rattle.pieces.specs.Put.{put_of};
+ghost use Rattle.why.specs.Why.{why_in};
 ghost use Rattle.why.specs.Result.{explained_in};
 ghost use Rattle.teller.specs.Words as words;
 ghost use Rattle.teller.specs.Decimal.{decimal_of};
+ghost use Rattle.teller.specs.Told.{told_in};
 ghost use Rattle.teller.specs.Run as run;
 ghost use Rattle.teller.specs.Laws as law;
 ghost use Rattle.teller.specs.Fed as piece;
@@ -13,8 +15,9 @@ ghost use Rattle.teller.specs.Fed as piece;
 use frames::Direction;
 use operations::magnitude;
 use player::{Hearer, Player};
+use refusals::Refusal;
 use threshold::Way;
-use why::{Denied, Explained, Explainer, Flag, Why};
+use why::{Denied, Explained, Explainer, Flag, Reasons};
 
 // The most bytes that a line is told in: 4294967295 hangover 4294967295 waiting 8, and a line feed.
 const MOST: usize = 41;
@@ -32,7 +35,7 @@ pub type Teller = Player<Hearing>;
 // Why a line's frame was sent or not, and the run after it.
 #[derive(Clone, Copy)]
 pub struct Told {
-    pub why: Why,
+    pub why: Result<Reasons, Refusal>,
     pub next: Hearing,
 }
 
@@ -47,18 +50,18 @@ struct Written {
 
 // What the explainer's result tells, and the run after it.
 fn sent(downlink: bool, r: Result<Explained, Denied>) -> Told
-    ensures { result ≡ run.sent_of downlink (explained_in r) }
+    ensures { told_in result ≡ run.sent_of downlink (explained_in r) }
 {
     match r {
         Ok(x) => Told {
-            why: Why::Because(x.reasons),
+            why: Ok(x.reasons),
             next: Hearing {
                 downlink,
                 explainer: x.next,
             },
         },
         Err(d) => Told {
-            why: Why::Refused(d.refusal.number()),
+            why: Err(d.refusal),
             next: Hearing {
                 downlink,
                 explainer: d.explainer,
@@ -69,7 +72,7 @@ fn sent(downlink: bool, r: Result<Explained, Denied>) -> Told
 
 // Explains the frame of a line, with its line feed; `block` are the bytes of its samples.
 pub fn tell(h: Hearing, block: &[u8], line: &[u8]) -> Told
-    ensures { result ≡ run.told_of h block.now line.now }
+    ensures { told_in result ≡ run.told_of h block.now line.now }
 {
     match lines::decode(line) {
         Ok(frame) => {
@@ -86,7 +89,7 @@ pub fn tell(h: Hearing, block: &[u8], line: &[u8]) -> Told
             )
         }
         Err(refusal) => Told {
-            why: Why::Refused(refusal.number()),
+            why: Err(refusal),
             next: h,
         },
     }
@@ -168,18 +171,18 @@ fn way_text(out: &mut [u8], at: usize, w: Way) -> usize
 }
 
 // Puts what a line is told.
-fn text(out: &mut [u8], at: usize, why: Why) -> usize
-    requires { at + length (words.text_of why) ≤ length out.old }
-    ensures value { result ≡ at + length (words.text_of why) }
-    ensures out_after { out.new ≡ put_of out.old at (words.text_of why) }
+fn text(out: &mut [u8], at: usize, why: Result<Reasons, Refusal>) -> usize
+    requires { at + length (words.text_of (why_in why)) ≤ length out.old }
+    ensures value { result ≡ at + length (words.text_of (why_in why)) }
+    ensures out_after { out.new ≡ put_of out.old at (words.text_of (why_in why)) }
 {
     match why {
-        Why::Refused(n) => {
+        Err(refusal) => {
             let a = word(out, at, b"refused ");
-            let b = number(out, a, n as u32);
+            let b = number(out, a, u32::from(refusal.number()));
             word(out, b, b"\n")
         }
-        Why::Because(r) => {
+        Ok(r) => {
             let flag = r.flag;
             let threshold = r.threshold;
             let a = number(out, at, r.number);

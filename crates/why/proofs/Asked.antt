@@ -25,7 +25,7 @@ use Rattle.detector.specs.Run.{answer_to, state_from, accepted_from, raws_of}
 use Rattle.detector.proofs.Run.{Hangs, step_hangs, Counted, counted_start, flag_more, burst_more, counted_more, raws_length, raws_more, accepted_more, refused_more, as_given}
 use Rattle.why.specs.declared.Flag.{Flag}
 use Rattle.why.specs.declared.Reasons.{Reasons}
-use Rattle.why.specs.declared.Why.{Why}
+use Rattle.why.specs.Why.{Why}
 use Rattle.why.specs.declared.Explainer.{Explainer}
 use Rattle.why.specs.Explained.{Explained}
 use Rattle.why.specs.Explain.{limit, start_of, flag_reason, latest_after, threshold_reason, accepted_of, denied_of, explained_for}

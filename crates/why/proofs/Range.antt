@@ -21,7 +21,7 @@ use Rattle.detector.specs.Answer.{Answer}
 use Rattle.detector.specs.Step.{answer_for}
 use Rattle.detector.proofs.Table.{accepted_0}
 use Rattle.detector.proofs.Keeps.{accepted}
-use Rattle.why.specs.declared.Why.{Why}
+use Rattle.why.specs.Why.{Why}
 use Rattle.why.specs.declared.Explainer.{Explainer}
 use Rattle.why.specs.Explained.{Explained}
 use Rattle.why.specs.Explain.{threshold_reason, accepted_of, denied_of, numbered_of, reasoned_of, explained_for}

@@ -8,7 +8,7 @@ use Rattle.detector.specs.Step.{refused_of, tone_read}
 use Rattle.detector.specs.Run.{answer_to, state_from, accepted_from}
 use Rattle.why.specs.declared.Flag.{Flag}
 use Rattle.why.specs.declared.Reasons.{Reasons}
-use Rattle.why.specs.declared.Why.{Why}
+use Rattle.why.specs.Why.{Why}
 use Rattle.why.specs.declared.Explainer.{Explainer}
 use Rattle.why.specs.Explained.{Explained}
 use Rattle.why.specs.Explain.{limit, start_of, explained_for}

@@ -14,7 +14,7 @@ use Rattle.state.specs.Valid.{reset_of}
 use Rattle.detector.specs.Answer.{Answer}
 use Rattle.detector.specs.Step.{refused_of, tone_read, answer_for}
 use Rattle.why.specs.declared.Flag.{Flag}
-use Rattle.why.specs.declared.Why.{Why}
+use Rattle.why.specs.Why.{Why}
 use Rattle.why.specs.declared.Explainer.{Explainer}
 use Rattle.why.specs.Explained.{Explained}
 

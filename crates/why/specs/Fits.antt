@@ -12,7 +12,7 @@ use Rattle.detector.specs.Answer.{Answer}
 use Rattle.detector.specs.Run.{raws_of}
 use Rattle.why.specs.declared.Flag.{Flag}
 use Rattle.why.specs.declared.Reasons.{Reasons}
-use Rattle.why.specs.declared.Why.{Why}
+use Rattle.why.specs.Why.{Why}
 
 -- ---- the cases of the two enums: the number of each in its order, and the values that it carries
 pub record Case : Type 0 where

@@ -1,3 +1,4 @@
+pub mod Why
 pub mod Explained
 pub mod Explain
 pub mod Fits

@@ -4,7 +4,7 @@ use Rattle.std.specs.Prelude.{Result, Ok, Err}
 use Rattle.refusals.specs.Refusal.{number_of}
 use Rattle.detector.specs.Step.{refused_of}
 use Rattle.detector.specs.Result.{accepted_in}
-use Rattle.why.specs.declared.Why.{Why}
+use Rattle.why.specs.Why.{Why}
 use Rattle.why.specs.declared.Explained as code
 use Rattle.why.specs.declared.Denied.{Denied}
 use Rattle.why.specs.Explained.{Explained}

@@ -22,7 +22,7 @@ use Rattle.detector.specs.Refusal.{refusal_of}
 use Rattle.detector.specs.Step.{spectral_of, accepted_of, refused_of, tone_read, tone_kept, answer_for}
 use Rattle.detector.specs.Worked.{loud, quiet, bad}
 use Rattle.why.specs.declared.Flag.{Flag}
-use Rattle.why.specs.declared.Why.{Why}
+use Rattle.why.specs.Why.{Why}
 use Rattle.why.specs.declared.Explainer.{Explainer}
 use Rattle.why.specs.Explain as explain
 use Rattle.why.specs.Asked.{explained_to, explainer_from, told}

@@ -38,13 +38,6 @@ pub struct Reasons {
     pub threshold: Way,
 }
 
-// A refused frame is explained by its number only: the theorem `asked` names these two cases.
-#[derive(Clone, Copy)]
-pub enum Why {
-    Refused(u8),
-    Because(Reasons),
-}
-
 // A run so far: the detector, how many frames were accepted, and the number of the latest that completed a burst, 0 where none did: `explain` answers from
 // every such run, and a hangover names this number.
 #[derive(Clone, Copy)]

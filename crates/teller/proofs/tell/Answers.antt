@@ -5,7 +5,6 @@ use mathlib.Core.List.{List}
 use Prim.Native.Nat.{ℕ}
 use native.Mathlib.Omega.{arith}
 use lib.ListN.{take}
-use lib.IntN.{ℤ}
 use mir.Syntax.{w16}
 use mir.Val.{SFits}
 use Rattle.numbers.proofs.Read.{zreads}
@@ -19,16 +18,18 @@ use Rattle.samples.specs.Samples.{sof_of, read_of}
 use Rattle.samples.proofs.Frame.{read_is, read_most}
 use Rattle.why.specs.Explain.{explained_for}
 use Rattle.why.specs.Result.{explained_in}
+use Rattle.why.specs.Why.{why_in}
+use Rattle.teller.specs.Told.{told_in}
 use Rattle.teller.specs.Run.{direction_by, sent_of, denied_of}
 use Rattle.teller.proofs.Steps.{told_no, told_ok}
 use Rattle.teller.proofs.tell.Goals as goal
 use Rattle.teller.proofs.tell.Goals.{After-explain, then-h, else-h}
 
 pub returns-in-Err : goal.returns-in-Err
-unfolding denied_of
+unfolding denied_of told_in why_in
 returns-in-Err c =
     let d = decoded_err c.args.line.now _ c.in-Err.ensures in
-    ap (λ (k : ℕ). denied_of k c.args.h) (c.number.ensures.value ∙ d.0) ∙ sym (told_no c.args.h c.args.block.now c.args.line.now d.1)
+    ap (λ (k : ℕ). denied_of k c.args.h) d.0 ∙ sym (told_no c.args.h c.args.block.now c.args.line.now d.1)
 
 -- what is read of the bytes are their samples
 heard : (block : List ℕ) (s : Samples) → s ≡ read_of block → take s.count s.sof ≡ sof_of block

@@ -4,14 +4,14 @@ use Prim.Native.Nat.{◌+◌}
 use native.Mathlib.Omega.{arith}
 use lib.ListN.{length}
 use Rattle.pieces.specs.Put.{put_of}
-use Rattle.teller.specs.declared.Told.{Told}
+use Rattle.teller.specs.Told.{Told, told_in}
 use Rattle.teller.specs.Words.{text_of}
 use Rattle.teller.specs.Run.{next_of, line_text}
 use Rattle.teller.specs.Laws.{line_most}
 use Rattle.teller.proofs.HearingHearer.hear.Goals as goal
 
 pub text-requires : goal.text-requires
-unfolding line_text
+unfolding line_text told_in
 text-requires c =
     let a = c.args in
     let m = line_most a.self.now a.block.now a.line.now in
@@ -19,7 +19,7 @@ text-requires c =
     omega (arith, c.requires)
 
 pub returns : goal.returns
-unfolding next_of line_text
+unfolding next_of line_text told_in
 returns c =
     let a = c.args in
     let t = c.tell-told.ensures in
