@@ -9,6 +9,10 @@ use borrow.Author.Tests.{ne_eqb}
 use lib.Dec.{T as Holds}
 use lib.ListN.{length, drop, get_or, set}
 use lib.Seq.{set-get_or}
+use Rattle.std.specs.Prelude.{Ok, Err}
+use Rattle.refusals.specs.Refusal.{number_of}
+use Rattle.refusals.specs.declared.Refusal.{Refusal}
+use Rattle.refusals.proofs.Laws.{number_digit}
 use Rattle.rows.specs.Choice.{IF◌THEN◌ELSE◌}
 use Rattle.rows.proofs.Choice.{by_test, by_yes, by_no, either}
 use Rattle.lines.specs.Answers.{Decoded, parsed_of, accepted_of}
@@ -23,10 +27,12 @@ use Rattle.runner.specs.Said.{stepped_of, denied_of, text_of}
 use Rattle.card.specs.Card.{Order, call, reset, channel_of, in_bank, called_of, number_only, answer_of, bank_after}
 use Rattle.card.proofs.Orders.{answer_out, bank_out, call_answer, call_bank, reset_answer, reset_bank}
 use Rattle.card.proofs.Shared.{inside}
-use Rattle.exchange.specs.declared.Named.{Named}
+use Rattle.exchange.specs.declared.Named as code
+use Rattle.exchange.specs.declared.Order as order
+use Rattle.exchange.specs.declared.Order.TheVariants.{Call, Reset}
 use Rattle.exchange.specs.Line.{channel_in, calls_of, orderly, frame_at, order_in}
 use Rattle.exchange.specs.Run.{channels, replied_of, malformed, reply_of, next_of, write_of}
-use Rattle.exchange.specs.Named.{none_of, found_of, named_of, said_of}
+use Rattle.exchange.specs.Named.{Named, none_of, found_of, named_of, asked_in, read_in, said_of}
 use Rattle.exchange.proofs.Form.{cut_malformed}
 
 -- ---- a malformed line
@@ -151,3 +157,21 @@ module _ (bank : List State) (l : List ℕ) (size : length bank ≡ channels) wh
       (λ v. subst (λ (b : Bool). Steps bank l (named (not b) (parsed_of (drop 2 l)))) (sym v) (reset_steps (parsed_of (drop 2 l)) t u v)))
       (outside t))
       (λ t. none_steps bank l 6 (λ z. omega arith) (malformed_is bank l t) (malformed_next bank l t))
+
+-- ---- the two steps, by what code reads
+asked_channel : (c : ℕ) (o : order.Order) → (asked_in c o).channel ≡ c
+unfolding asked_in
+asked_channel c (Call f) = refl
+asked_channel c Reset = refl
+
+pub asked_named : (n : code.Named) → (read_in (Ok n)).channel ≡ n.channel
+unfolding read_in
+asked_named n = asked_channel n.channel n.order
+
+pub refused_steps : (bank : List State) (l : List ℕ) → length bank ≡ channels → (e : Refusal) → read_in (Err e) ≡ named_of l
+    → (record { refusal = number_of e; vad = false; vvad = false } ≡ reply_of bank l) × (bank ≡ next_of bank l)
+unfolding read_in none_of denied_of
+refused_steps bank l size e p =
+    let s = subst (Steps bank l) (sym p) (line_steps bank l size) in
+    let q = none_said (number_of e) (get_or bank 0 reset_of) (λ z. let d = number_digit e in omega arith) in
+    (sym (ap (λ (x : Said). x.reply) q) ∙ s.reply, sym (set-get_or bank 0 reset_of) ∙ (sym (ap (λ (x : Said). set bank 0 x.next) q) ∙ s.next))

@@ -1,10 +1,8 @@
 // A card's trace run piece by piece: each line is an order on one of 64 channels. The bank, and what is unfinished, are carried by value.
 #![tactic(auto)]
 
-ghost use Rattle.std.specs.Prelude.{◌≡◌};
-ghost use Rattle.lines.specs.Answers.{accepted_of};
-ghost use Rattle.runner.specs.Said.{answer_bytes, denied_of};
-ghost use Rattle.exchange.specs.Line as form;
+ghost use Rattle.std.specs.Prelude.{◌≡◌, false, Ok};
+ghost use Rattle.runner.specs.Said.{answer_bytes};
 ghost use Rattle.exchange.specs.Named as one;
 ghost use Rattle.exchange.specs.Hears as hears;
 ghost use Rattle.exchange.specs.Laws as law;
@@ -14,23 +12,12 @@ use card::{CHANNELS, in_bank};
 use counts::Reply;
 use lines::Frame;
 use player::{Hearer, Player};
+use refusals::Refusal;
 use runner::Said;
 use state::State;
 
 // The bytes of an answer: its three characters and a line feed.
 const ANSWER: usize = 4;
-
-// The bytes of a line that resets a channel: two digits and a line feed.
-const RESET: usize = 3;
-
-const LINE_FEED: u8 = 10;
-
-// What stands after a channel that is reset.
-const NO_FRAME: Frame = Frame {
-    acf: [0; 9],
-    scale: 0,
-    lags: [0; 4],
-};
 
 // The states of a card's channels.
 #[derive(Clone, Copy)]
@@ -41,111 +28,74 @@ pub struct Bank {
 // A run between two pieces.
 pub type Exchange = Player<Bank>;
 
-// What a line names: a channel of the bank, and its reset or the numbers of a frame; or 6, or 9, and channel 0.
+// What a line asks of its channel.
 #[derive(Clone, Copy)]
-pub struct Named {
-    pub refusal: u8,
-    pub resets: bool,
-    pub channel: usize,
-    pub acf: [i32; 9],
-    pub lags: [u16; 4],
-    pub scale: i16,
+enum Order {
+    Call(Frame),
+    Reset,
+}
+
+// What a line names: a channel of the bank, and what is asked of it.
+#[derive(Clone, Copy)]
+struct Named {
+    channel: usize,
+    order: Order,
 }
 
 // ---- one line
 
-// A line that names no channel of the bank.
-fn none(n: u8) -> Named
-    ensures { result ≡ one.none_of n }
-{
-    Named {
-        refusal: n,
-        resets: false,
-        channel: 0,
-        acf: [0i32; 9],
-        lags: [0u16; 4],
-        scale: 0,
-    }
-}
-
-// A line that names this channel, and the numbers that stand after it.
-fn found(channel: usize, resets: bool, frame: Frame) -> Named
-    ensures { result ≡ one.found_of channel resets (accepted_of frame) }
-{
-    if !in_bank(CHANNELS, channel) {
-        return none(9);
-    }
-    let acf = frame.acf;
-    let lags = frame.lags;
-    Named {
-        refusal: 0,
-        resets,
-        channel,
-        acf,
-        lags,
-        scale: frame.scale,
-    }
-}
-
-// Whether a line has two characters and a line feed.
-fn bare(line: &[u8]) -> bool
-    ensures { result ≡ form.resets_of line.now }
-{
-    if line.len() != RESET {
-        return false;
-    }
-    line[2] == LINE_FEED
-}
-
 // Reads a line, with its line feed: what it names, or the first of 6, 9 that refuses it.
-fn read(line: &[u8]) -> Named
-    ensures { result ≡ one.named_of line.now }
+fn read(line: &[u8]) -> Result<Named, Refusal>
+    ensures { one.read_in result ≡ one.named_of line.now }
 {
-    if line.len() < RESET {
-        return none(6);
-    }
-    let Some(high) = lines::value(line[0]) else {
-        return none(6);
+    let [high, low, rest @ ..] = line else {
+        return Err(Refusal::Malformed);
     };
-    let Some(low) = lines::value(line[1]) else {
-        return none(6);
+    let Some(high) = lines::value(*high) else {
+        return Err(Refusal::Malformed);
     };
-    let channel = 16 * high as usize + low as usize;
-    match lines::parse(&line[2..]) {
-        Ok(frame) => found(channel, false, frame),
-        Err(_) if bare(line) => found(channel, true, NO_FRAME),
-        Err(_) => none(6),
+    let Some(low) = lines::value(*low) else {
+        return Err(Refusal::Malformed);
+    };
+    let order = if rest == b"\n".as_slice() {
+        Order::Reset
+    } else {
+        Order::Call(lines::parse(rest)?)
+    };
+    let channel = 16 * usize::from(high) + usize::from(low);
+    if !in_bank(CHANNELS, channel) {
+        return Err(Refusal::Channel);
     }
+    Ok(Named { channel, order })
 }
 
-// A number, and the state that stays or is new.
-fn kept(n: u8, s: State) -> Said
-    ensures { result ≡ denied_of n s }
+// A number alone.
+fn only(refusal: u8) -> Reply
+    ensures { result ≡ record { refusal = refusal; vad = false; vvad = false } }
 {
-    Said {
-        reply: Reply {
-            refusal: n,
-            vad: false,
-            vvad: false,
-        },
-        next: s,
+    Reply {
+        refusal,
+        vad: false,
+        vvad: false,
     }
 }
 
 // What is answered where the named channel has this state.
-fn answer(s: State, n: Named) -> Said
-    ensures { result ≡ one.said_of s n }
+fn answer(s: State, named: Named) -> Said
+    ensures { result ≡ one.said_of s (one.read_in (Ok named)) }
 {
-    if n.refusal != 0 {
-        return kept(n.refusal, s);
+    match named.order {
+        Order::Call(frame) => {
+            runner::stepped(detector::step(&frame.acf, &frame.lags, frame.scale, s))
+        }
+        Order::Reset => Said {
+            reply: only(0),
+            next: State::reset(),
+        },
     }
-    if n.resets {
-        return kept(0, State::reset());
-    }
-    runner::stepped(detector::step(&n.acf, &n.lags, n.scale, s))
 }
 
-// Where a line names no channel, the state of channel 0 is taken out, and stored as it was.
+// Where a line is refused, all states stay as they were.
 impl Hearer for Bank {
     const MOST: usize = ANSWER;
 
@@ -156,10 +106,15 @@ impl Hearer for Bank {
     ghost text = { hears.text_of };
 
     fn hear(&mut self, _block: &[u8], line: &[u8], out: &mut [u8], at: usize) -> usize {
-        let n = read(line);
-        let said = answer(self.states[n.channel], n);
-        self.states[n.channel] = said.next;
-        pieces::put(out, at, &runner::text(said.reply));
+        let reply = match read(line) {
+            Ok(named) => {
+                let said = answer(self.states[named.channel], named);
+                self.states[named.channel] = said.next;
+                said.reply
+            }
+            Err(refusal) => only(refusal.number()),
+        };
+        pieces::put(out, at, &runner::text(reply));
         at + ANSWER
     }
 
