@@ -138,6 +138,7 @@ fn answered(
         rav1,
         normrav1,
     } = spectral(acf, scalvad, s);
+    // By a name of its own: a field that is an array can't stand straight in a literal.
     let rvad = s.rvad;
     let was = Kept {
         thvad: s.thvad,
