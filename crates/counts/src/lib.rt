@@ -7,7 +7,7 @@ ghost use Rattle.counts.specs.Counts.{totals_of, full_of, plus_of, count_of};
 // The most lines that are counted: eight digits write no more.
 const LIMIT: u64 = 4294967295;
 
-// The answer to a line: its refusal number, vad and vvad.
+// The answer to a line: its refusal number, vad and vvad. The number is any: `count` here, and `text` in `runner`, promise something for every one.
 #[derive(Clone, Copy)]
 pub struct Reply {
     pub refusal: u8,
@@ -25,7 +25,7 @@ pub struct Totals {
     pub refused: u32,
 }
 
-// Totals, and 0, or 7 where there was a line more than can be counted.
+// Totals, and 0, or 7 where there was a line more than can be counted. The number is any: `count` keeps every other too.
 #[derive(Clone, Copy)]
 pub struct Counted {
     pub refusal: u8,
@@ -36,8 +36,8 @@ pub struct Counted {
 fn full(t: Totals) -> bool
     ensures { result ≡ full_of t }
 {
-    let lines = t.accepted as u64 + t.refused as u64;
-    let frames = t.speech as u64 + t.held as u64 + t.quiet as u64;
+    let lines = u64::from(t.accepted) + u64::from(t.refused);
+    let frames = u64::from(t.speech) + u64::from(t.held) + u64::from(t.quiet);
     (lines >= LIMIT) | (frames >= LIMIT)
 }
 

@@ -58,7 +58,7 @@ fn part<const N: usize>(run: &[i32; RUN], first: usize) -> [i32; N]
     out
 }
 
-// A number that is one of 16 bits.
+// A number that is one of 16 bits. What is cast here, and for the pointers and the last lag, is known to fit: `try_from` would bring an error that can't come.
 fn short(x: i32) -> i16
     requires { SFits w16 x }
     ensures { result ≡ x }
@@ -151,7 +151,7 @@ fn bit(flag: bool) -> i32
     i32::from(flag)
 }
 
-// A state as a run.
+// A state as a run. The pointers are cast, since they are known to fit.
 fn packed(s: State) -> [i32; RUN]
     requires { (s.ptsacf ≤ 27) × (s.ptsav0 ≤ 27) }
     ensures { result ≡ library.run_of s }
@@ -257,7 +257,7 @@ fn stepped(
     Ok(())
 }
 
-// ---- the interface
+// ---- the interface: C has no `Result`, so each function answers with a number, 0 where nothing is refused
 
 // The state after a reset, into a lent run of 85 numbers: 0, or 1 for a run of another length.
 #[unsafe(no_mangle)]

@@ -78,10 +78,12 @@ fn number(digits: &[u8; 8]) -> u32
     // Each digit with the one after it, from the lane above: four numbers of two digits, then two of four, then one of eight.
     let bytes = (worths * 0x10 + worths / 0x100) & 0x00ff_00ff_00ff_00ff;
     let halves = (bytes * 0x100 + bytes / 0x1_0000) & 0x0000_ffff_0000_ffff;
+    // What is left fits 32 bits, and is cast: `try_from` would bring an error that can't come.
     ((halves * 0x1_0000 + halves / 0x1_0000_0000) & 0xffff_ffff) as u32
 }
 
-// The lowest digits of a number, as many as are wanted. They are stored by index, since a proof learns nothing of what is written through an iterator.
+// The lowest digits of a number, as many as are wanted. They are stored by index, since a proof learns nothing of what is written through an iterator. A
+// number below 16 fits 8 bits, and is cast for the same reason as above.
 fn written<const K: usize>(x: u32) -> [u8; K]
     ensures { result ≡ hex.digits_of K x }
 {

@@ -2,6 +2,7 @@
 #![tactic(auto)]
 
 ghost use Rattle.std.specs.Prelude.{◌≡◌, ◌<◌};
+ghost use Rattle.refusals.specs.Refusal.{number_of};
 ghost use Rattle.detector.specs.Result.{answer_of};
 ghost use Rattle.listener.specs.Said as one;
 ghost use Rattle.listener.specs.Hears as line;
@@ -10,6 +11,7 @@ ghost use Rattle.listener.specs.Laws as law;
 
 use detector::{Accepted, Refused};
 use player::{Hearer, Player};
+use refusals::Refusal;
 use state::State;
 
 // The bytes of an answer: its four characters and a line feed.
@@ -24,7 +26,8 @@ pub struct Downlink {
 // A run between two pieces.
 pub type Listener = Player<Downlink>;
 
-// The answer to a line: its refusal number, vad, vvad, and the tone flag that is kept for the next frame.
+// The answer to a line: its refusal number, vad, vvad, and the tone flag that is kept for the next frame. The number itself stands here, 0 for none, since
+// the definitions of an answer and of its text, in specs/Said.antt, are of that.
 #[derive(Clone, Copy)]
 pub struct Reply {
     pub refusal: u8,
@@ -43,12 +46,12 @@ pub struct Said {
 // ---- one line
 
 // A line that is refused keeps the state, and its flag.
-fn denied(refusal: u8, s: State) -> Said
-    ensures { result ≡ one.denied_of refusal s }
+fn denied(refusal: Refusal, s: State) -> Said
+    ensures { result ≡ one.denied_of (number_of refusal) s }
 {
     Said {
         reply: Reply {
-            refusal,
+            refusal: refusal.number(),
             vad: false,
             vvad: false,
             tone: s.tone,
@@ -71,7 +74,7 @@ fn stepped(r: Result<Accepted, Refused>) -> Said
             },
             next: a.next,
         },
-        Err(r) => denied(r.refusal.number(), r.state),
+        Err(r) => denied(r.refusal, r.state),
     }
 }
 
@@ -90,18 +93,15 @@ pub fn answer(s: State, block: &[u8], line: &[u8]) -> Said
                 s,
             ))
         }
-        Err(refusal) => denied(refusal.number(), s),
+        Err(refusal) => denied(refusal, s),
     }
 }
 
-// A flag as a character.
+// A flag as a character. `runner` has the same line: neither crate stands on the other, and one line needs no crate of its own.
 fn flag(b: bool) -> u8
     ensures { result ≡ one.flag_of b }
 {
-    if b {
-        return 49;
-    }
-    48
+    b'0' + u8::from(b)
 }
 
 // The five bytes of an answer.
@@ -112,7 +112,7 @@ fn text(r: Reply) -> [u8; ANSWER]
     let a = flag(r.vad);
     let b = flag(r.vvad);
     let c = flag(r.tone);
-    [48 + r.refusal, a, b, c, 10]
+    [b'0' + r.refusal, a, b, c, b'\n']
 }
 
 impl Hearer for Downlink {
@@ -140,7 +140,7 @@ impl Hearer for Downlink {
 
 // ---- a run in pieces
 
-// A run before its first piece.
+// A run before its first piece. It stands free: `Listener` names a type of `player`, and a crate gives methods to its own types alone.
 pub fn start() -> Listener
     ensures { result ≡ piece.start_of }
 {

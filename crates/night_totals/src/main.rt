@@ -68,6 +68,7 @@ fn report_all(rt: HostRuntime) -> Result<(), Failed> {
     if words < 2 {
         return report(rt, &mut Input::standard(rt));
     }
+    // By number, which is how a word is asked for.
     for i in 1..words {
         if let Ok(mut input) = Input::named(rt, i) {
             report(rt, &mut input)?;

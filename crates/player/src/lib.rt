@@ -68,6 +68,7 @@ fn run<H: Hearer>(hearer: &mut H, input: &[u8], samples: &[u8], out: &mut [u8], 
     let mut used: usize = 0;
     let mut wrote = at;
     let mut i: usize = 0;
+    // A `while` over places: a line's end is looked for many bytes at a time, and `line_end` gives its place.
     while i < input.len() {
         let to = pieces::line_end(input, i);
         let end = samples::frame_end(samples, used);

@@ -2,6 +2,7 @@
 #![tactic(auto)]
 
 ghost use Rattle.std.specs.Prelude.{◌≡◌};
+ghost use Rattle.refusals.specs.Refusal.{number_of};
 ghost use Rattle.detector.specs.Result.{answer_of};
 ghost use Rattle.runner.specs.Said as one;
 ghost use Rattle.runner.specs.Hears as line;
@@ -11,6 +12,7 @@ ghost use Rattle.runner.specs.Laws as law;
 use counts::Reply;
 use detector::{Accepted, Refused};
 use player::{Hearer, Player};
+use refusals::Refusal;
 use state::State;
 
 // The bytes of an answer: its three characters and a line feed.
@@ -35,12 +37,12 @@ pub struct Said {
 // ---- one line
 
 // A line that is refused.
-fn denied(refusal: u8, s: State) -> Said
-    ensures { result ≡ one.denied_of refusal s }
+fn denied(refusal: Refusal, s: State) -> Said
+    ensures { result ≡ one.denied_of (number_of refusal) s }
 {
     Said {
         reply: Reply {
-            refusal,
+            refusal: refusal.number(),
             vad: false,
             vvad: false,
         },
@@ -61,7 +63,7 @@ pub fn stepped(r: Result<Accepted, Refused>) -> Said
             },
             next: a.next,
         },
-        Err(r) => denied(r.refusal.number(), r.state),
+        Err(r) => denied(r.refusal, r.state),
     }
 }
 
@@ -71,28 +73,22 @@ pub fn answer(s: State, line: &[u8]) -> Said
 {
     match lines::decode(line) {
         Ok(frame) => stepped(detector::step(&frame.acf, &frame.lags, frame.scale, s)),
-        Err(refusal) => denied(refusal.number(), s),
+        Err(refusal) => denied(refusal, s),
     }
 }
 
-// A flag as a character.
+// A flag as a character. `listener` has the same line: neither crate stands on the other, and one line needs no crate of its own.
 fn flag(b: bool) -> u8
     ensures { result ≡ one.flag_of b }
 {
-    if b {
-        return 49;
-    }
-    48
+    b'0' + u8::from(b)
 }
 
 // A number as a character.
 fn numeral(n: u8) -> u8
     ensures { result ≡ one.numeral_of n }
 {
-    if n < 10 {
-        return 48 + n;
-    }
-    63
+    if n < 10 { b'0' + n } else { b'?' }
 }
 
 // The four bytes of an answer.
@@ -102,7 +98,7 @@ pub fn text(r: Reply) -> [u8; ANSWER]
     let n = numeral(r.refusal);
     let a = flag(r.vad);
     let b = flag(r.vvad);
-    [n, a, b, 10]
+    [n, a, b, b'\n']
 }
 
 impl Hearer for Uplink {
@@ -130,7 +126,7 @@ impl Hearer for Uplink {
 
 // ---- a run in pieces
 
-// A run before its first piece.
+// A run before its first piece. It stands free: `Runner` names a type of `player`, and a crate gives methods to its own types alone.
 pub fn start() -> Runner
     ensures { result ≡ piece.start_of }
 {

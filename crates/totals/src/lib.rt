@@ -53,7 +53,7 @@ impl Hearer for Tally {
     ghost short_text = { law.short_text };
 }
 
-// A night before the first piece of its trace.
+// A night before the first piece of its trace. It stands free: `Night` names a type of `player`, and a crate gives methods to its own types alone.
 pub fn start() -> Night
     ensures { result ≡ piece.start_of }
 {
@@ -79,10 +79,9 @@ pub fn report(t: Totals) -> [u8; REPORT]
     ensures { result ≡ line.report_of t }
 {
     let numbers = [t.accepted, t.speech, t.held, t.quiet, t.refused];
-    let mut out = [10u8; REPORT];
-    for i in 0..5 {
-        let digits = lines::eight(numbers[i]);
-        pieces::put(&mut out, 8 * i, &digits);
+    let mut out = [b'\n'; REPORT];
+    for (i, n) in numbers.iter().enumerate() {
+        pieces::put(&mut out, 8 * i, &lines::eight(*n));
     }
     out
 }

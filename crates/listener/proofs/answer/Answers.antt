@@ -24,7 +24,7 @@ use Rattle.listener.proofs.answer.Goals.{After-read-heard}
 pub returns-in-Err : goal.returns-in-Err
 returns-in-Err c =
     let d = decoded_err c.args.line.now _ c.in-Err.ensures in
-    c.denied.ensures ∙ ap (λ (k : ℕ). denied_of k c.args.s) (c.number.ensures.value ∙ d.0) ∙ sym (said_no c.args.s c.args.block.now c.args.line.now d.1)
+    c.denied.ensures ∙ ap (λ (k : ℕ). denied_of k c.args.s) d.0 ∙ sym (said_no c.args.s c.args.block.now c.args.line.now d.1)
 
 -- no more samples than the frame has
 pub shared_ref_as_front-downlink : goal.shared_ref_as_front-downlink

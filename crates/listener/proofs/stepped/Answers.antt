@@ -1,6 +1,5 @@
 -- `listener::stepped` answers with what the detector's result stands for. Assumes nothing.
 use mathlib.Core.Path.{sym, ap, ◌∙◌}
-use Prim.Native.Nat.{ℕ}
 use Rattle.detector.specs.Step.{refused_of}
 use Rattle.detector.specs.Result.{answer_of}
 use Rattle.listener.specs.Said.{stepped_of, denied_of}
@@ -12,4 +11,4 @@ returns-in-Ok c = ap (λ r. stepped_of (answer_of r)) (sym c.in-Ok.is)
 
 pub returns-in-Err : goal.returns-in-Err
 unfolding stepped_of denied_of refused_of answer_of
-returns-in-Err c = c.denied.ensures ∙ ap (λ (n : ℕ). denied_of n c.in-Err.r.state) c.number.ensures.value ∙ ap (λ r. stepped_of (answer_of r)) (sym c.in-Err.is)
+returns-in-Err c = c.denied.ensures ∙ ap (λ r. stepped_of (answer_of r)) (sym c.in-Err.is)

@@ -12,7 +12,7 @@ use Rattle.runner.proofs.answer.Goals as goal
 pub returns-in-Err : goal.returns-in-Err
 returns-in-Err c =
     let d = decoded_err c.args.line.now _ c.in-Err.ensures in
-    c.denied.ensures ∙ ap (λ (k : ℕ). denied_of k c.args.s) (c.number.ensures.value ∙ d.0) ∙ sym (said_no c.args.s c.args.line.now d.1)
+    c.denied.ensures ∙ ap (λ (k : ℕ). denied_of k c.args.s) d.0 ∙ sym (said_no c.args.s c.args.line.now d.1)
 
 pub returns-in-Ok : goal.returns-in-Ok
 unfolding accepted_of
