@@ -22,7 +22,7 @@ use why::{Denied, Explained, Explainer, Flag, Reasons};
 // The most bytes that a line is told in: 4294967295 hangover 4294967295 waiting 8, and a line feed.
 const MOST: usize = 41;
 
-// A run, and whether it is one on the downlink.
+// A run, and whether it is one on the downlink: a kind of run, which no value stands beside.
 #[derive(Clone, Copy)]
 pub struct Hearing {
     pub downlink: bool,
@@ -39,7 +39,7 @@ pub struct Told {
     pub next: Hearing,
 }
 
-// A number in decimal: its digits are those of `text` from `from` on.
+// A number in decimal: its digits are those of `text` from `from` on. There is no heap, so the buffer is fixed and its beginning stands beside it.
 #[derive(Clone, Copy)]
 struct Written {
     text: [u8; 10],
@@ -113,7 +113,8 @@ fn digits(n: u32) -> Written
     Written { text, from }
 }
 
-// Puts a text at `at`; where it ends.
+// Puts a text at `at`; where it ends. The texts are put into what is lent, each where the one before it ends: there is no heap, and a struct that lends
+// the output and keeps the place is no plainer.
 fn word(out: &mut [u8], at: usize, text: &[u8]) -> usize
     requires { at + length text.now ≤ length out.old }
     ensures value { result ≡ at + length text.now }
