@@ -22,7 +22,7 @@ use why::{Denied, Explained, Explainer, Flag, Reasons};
 // The most bytes that a line is told in: 4294967295 hangover 4294967295 waiting 8, and a line feed.
 const MOST: usize = 41;
 
-// A run, and whether it is one on the downlink.
+// A run, and whether it is one on the downlink: that is the run's kind, and both kinds have an explainer, so the flag has no value of its own.
 #[derive(Clone, Copy)]
 pub struct Hearing {
     pub downlink: bool,
@@ -39,7 +39,7 @@ pub struct Told {
     pub next: Hearing,
 }
 
-// A number in decimal: its digits are those of `text` from `from` on.
+// A number in decimal: its digits are those of `text` from `from` on, in fixed room, since there is no heap.
 #[derive(Clone, Copy)]
 struct Written {
     text: [u8; 10],
@@ -97,7 +97,7 @@ pub fn tell(h: Hearing, block: &[u8], line: &[u8]) -> Told
 
 // ---- its text
 
-// A number's digits, made from the last on.
+// A number's digits, made from the last on: the number ends the loop, and each digit is below ten, so the casts lose nothing.
 fn digits(n: u32) -> Written
     ensures { (result.from ≤ 9) × (drop result.from result.text ≡ decimal_of n) }
 {
@@ -130,9 +130,7 @@ fn number(out: &mut [u8], at: usize, n: u32) -> usize
     ensures out_after { out.new ≡ put_of out.old at (decimal_of n) }
 {
     let d = digits(n);
-    let text = d.text;
-    let from = d.from;
-    word(out, at, &text[from..])
+    word(out, at, &d.text[d.from..])
 }
 
 // Puts the reason of a flag.
@@ -164,7 +162,7 @@ fn way_text(out: &mut [u8], at: usize, w: Way) -> usize
         Way::Tone => word(out, at, b"tone"),
         Way::Waiting(k) => {
             let a = word(out, at, b"waiting ");
-            number(out, a, magnitude(k as i32))
+            number(out, a, magnitude(i32::from(k)))
         }
         Way::Adapted => word(out, at, b"adapted"),
     }
@@ -183,13 +181,11 @@ fn text(out: &mut [u8], at: usize, why: Result<Reasons, Refusal>) -> usize
             word(out, b, b"\n")
         }
         Ok(r) => {
-            let flag = r.flag;
-            let threshold = r.threshold;
             let a = number(out, at, r.number);
             let b = word(out, a, b" ");
-            let c = flag_text(out, b, flag);
+            let c = flag_text(out, b, r.flag);
             let d = word(out, c, b" ");
-            let e = way_text(out, d, threshold);
+            let e = way_text(out, d, r.threshold);
             word(out, e, b"\n")
         }
     }

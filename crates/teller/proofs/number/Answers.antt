@@ -11,12 +11,11 @@ use Rattle.teller.proofs.number.Goals as goal
 use Rattle.teller.proofs.number.Goals.{After-digits-d}
 
 -- the part that is put
-part : (c : After-digits-d) → take (10 - c.digits-d.result.from) (drop c.digits-d.result.from c.digits-d.result.text) ≡ decimal_of c.args.n
+part : (c : After-digits-d) → take (length c.digits-d.result.text - c.digits-d.result.from) (drop c.digits-d.result.from c.digits-d.result.text) ≡ decimal_of c.args.n
 part c =
     let r = c.digits-d.result in
-    let n : length r.text ≡ 10 = search rules in
     let d = length-drop r.from r.text in
-    take_all (10 - r.from) (drop r.from r.text) (omega arith) ∙ c.digits-d.ensures.1
+    take_all (length r.text - r.from) (drop r.from r.text) (omega arith) ∙ c.digits-d.ensures.1
 
 pub slice_bounds-word-end : goal.slice_bounds-word-end
 slice_bounds-word-end c = let n : length c.digits-d.result.text ≡ 10 = search rules in omega arith

@@ -7,7 +7,8 @@ use lib.ListN.{length}
 use lib.IntN.{nat_abs}
 use mir.Syntax.{w16, w32}
 use mir.Val.{SFits}
-use Rattle.numbers.proofs.Read.{cast_need, cast_back}
+use mir.Facts.{to_z-of_z}
+use Rattle.numbers.proofs.Read.{back}
 use Rattle.why.specs.Fits.{way_case}
 use Rattle.teller.specs.Decimal.{decimal_of}
 use Rattle.teller.specs.Words.{way_word, values_text, way_text}
@@ -43,19 +44,15 @@ its_text c = ap way_text c.in-Waiting.is ∙ waiting_text c.in-Waiting.k
 room : (c : In-Waiting) → c.args.at + length (waiting ++ decimal_of (nat_abs c.in-Waiting.k)) ≤ length c.args.out.now
 room c = room_as c.args.out.now c.args.at (its_text c) c.requires
 
-count_fits : (c : In-Waiting) → SFits w16 c.in-Waiting.k
-count_fits c = search rules
-
 pub word-a-requires : goal.word-a-requires
 word-a-requires c =
     room_first c.args.out.now c.args.at waiting (decimal_of (nat_abs c.in-Waiting.k)) (room (goal.at.word-a-requires c).In-Waiting)
 
-pub overflow_cast-k : goal.overflow_cast-k
-overflow_cast-k c = cast_need w16 w32 tt (count_fits (goal.at.overflow_cast-k c).In-Waiting)
-
 -- the number that is put
 count : (c : After-magnitude) → nat_abs c.in-Waiting.k ≡ c.magnitude.result
-count c = let f : SFits w16 c.in-Waiting.k = search rules in sym (c.magnitude.ensures ∙ ap nat_abs (cast_back w16 w32 tt f))
+count c =
+    let f : SFits w16 c.in-Waiting.k = search rules in
+    sym (c.magnitude.ensures ∙ ap nat_abs (back w32 {z = c.from.result} c.from.type_inv ∙ (c.from.ensures ∙ to_z-of_z f)))
 
 pub number-requires : goal.number-requires
 number-requires c =
