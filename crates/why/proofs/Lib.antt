@@ -5,3 +5,4 @@ pub mod Asked
 pub mod Left
 pub mod Instances
 pub mod Results
+pub mod Told
