@@ -22,7 +22,7 @@ use why::{Denied, Explained, Explainer, Flag, Reasons};
 // The most bytes that a line is told in: 4294967295 hangover 4294967295 waiting 8, and a line feed.
 const MOST: usize = 41;
 
-// A run, and whether it is one on the downlink: a kind of run, which no value stands beside.
+// A run, and whether it is one on the downlink: that is the run's kind, and both kinds have an explainer, so the flag has no value of its own.
 #[derive(Clone, Copy)]
 pub struct Hearing {
     pub downlink: bool,
@@ -39,7 +39,7 @@ pub struct Told {
     pub next: Hearing,
 }
 
-// A number in decimal: its digits are those of `text` from `from` on. There is no heap, so the buffer is fixed and its beginning stands beside it.
+// A number in decimal: its digits are those of `text` from `from` on, in fixed room, since there is no heap.
 #[derive(Clone, Copy)]
 struct Written {
     text: [u8; 10],
@@ -97,7 +97,7 @@ pub fn tell(h: Hearing, block: &[u8], line: &[u8]) -> Told
 
 // ---- its text
 
-// A number's digits, made from the last on.
+// A number's digits, made from the last on: the number ends the loop, and each digit is below ten, so the casts lose nothing.
 fn digits(n: u32) -> Written
     ensures { (result.from ≤ 9) × (drop result.from result.text ≡ decimal_of n) }
 {
@@ -113,85 +113,94 @@ fn digits(n: u32) -> Written
     Written { text, from }
 }
 
-// Puts a text at `at`; where it ends. The texts are put into what is lent, each where the one before it ends: there is no heap, and a struct that lends
-// the output and keeps the place is no plainer.
-fn word(out: &mut [u8], at: usize, text: &[u8]) -> usize
-    requires { at + length text.now ≤ length out.old }
-    ensures value { result ≡ at + length text.now }
-    ensures out_after { out.new ≡ put_of out.old at text.now }
-{
-    pieces::put(out, at, text);
-    at + text.len()
+// Lent output, and the place of the next text.
+#[derive(Drop)]
+struct Page<'a> {
+    out: &'a mut [u8],
+    at: usize,
 }
 
-// Puts a number.
-fn number(out: &mut [u8], at: usize, n: u32) -> usize
-    requires { at + length (decimal_of n) ≤ length out.old }
-    ensures value { result ≡ at + length (decimal_of n) }
-    ensures out_after { out.new ≡ put_of out.old at (decimal_of n) }
-{
-    let d = digits(n);
-    let text = d.text;
-    let from = d.from;
-    word(out, at, &text[from..])
-}
-
-// Puts the reason of a flag.
-fn flag_text(out: &mut [u8], at: usize, f: Flag) -> usize
-    requires { at + length (words.flag_text f) ≤ length out.old }
-    ensures value { result ≡ at + length (words.flag_text f) }
-    ensures out_after { out.new ≡ put_of out.old at (words.flag_text f) }
-{
-    match f {
-        Flag::Energy => word(out, at, b"energy"),
-        Flag::Hangover(n) => {
-            let a = word(out, at, b"hangover ");
-            number(out, a, n)
-        }
-        Flag::Quiet => word(out, at, b"quiet"),
+impl Page<'_> {
+    // Puts a text.
+    fn word(&mut self, text: &[u8])
+        requires { self.old.at + length text.now ≤ length self.old.out.now }
+        ensures same { self.new.out.ghost_name ≡ self.old.out.ghost_name }
+        ensures value { self.new.at ≡ self.old.at + length text.now }
+        ensures out_after { self.new.out.now ≡ put_of self.old.out.now self.old.at text.now }
+    {
+        pieces::put(self.out, self.at, text);
+        self.at += text.len();
     }
-}
 
-// Puts the reason of a threshold.
-fn way_text(out: &mut [u8], at: usize, w: Way) -> usize
-    requires { at + length (words.way_text w) ≤ length out.old }
-    ensures value { result ≡ at + length (words.way_text w) }
-    ensures out_after { out.new ≡ put_of out.old at (words.way_text w) }
-{
-    match w {
-        Way::Floor => word(out, at, b"floor"),
-        Way::Periodic => word(out, at, b"periodic"),
-        Way::Unsteady => word(out, at, b"unsteady"),
-        Way::Tone => word(out, at, b"tone"),
-        Way::Waiting(k) => {
-            let a = word(out, at, b"waiting ");
-            number(out, a, magnitude(k as i32))
-        }
-        Way::Adapted => word(out, at, b"adapted"),
+    // Puts a number.
+    fn number(&mut self, n: u32)
+        requires { self.old.at + length (decimal_of n) ≤ length self.old.out.now }
+        ensures same { self.new.out.ghost_name ≡ self.old.out.ghost_name }
+        ensures value { self.new.at ≡ self.old.at + length (decimal_of n) }
+        ensures out_after { self.new.out.now ≡ put_of self.old.out.now self.old.at (decimal_of n) }
+    {
+        let d = digits(n);
+        self.word(&d.text[d.from..])
     }
-}
 
-// Puts what a line is told.
-fn text(out: &mut [u8], at: usize, why: Result<Reasons, Refusal>) -> usize
-    requires { at + length (words.text_of (why_in why)) ≤ length out.old }
-    ensures value { result ≡ at + length (words.text_of (why_in why)) }
-    ensures out_after { out.new ≡ put_of out.old at (words.text_of (why_in why)) }
-{
-    match why {
-        Err(refusal) => {
-            let a = word(out, at, b"refused ");
-            let b = number(out, a, u32::from(refusal.number()));
-            word(out, b, b"\n")
+    // Puts the reason of a flag.
+    fn flag(&mut self, f: Flag)
+        requires { self.old.at + length (words.flag_text f) ≤ length self.old.out.now }
+        ensures same { self.new.out.ghost_name ≡ self.old.out.ghost_name }
+        ensures value { self.new.at ≡ self.old.at + length (words.flag_text f) }
+        ensures out_after { self.new.out.now ≡ put_of self.old.out.now self.old.at (words.flag_text f) }
+    {
+        match f {
+            Flag::Energy => self.word(b"energy"),
+            Flag::Hangover(n) => {
+                self.word(b"hangover ");
+                self.number(n)
+            }
+            Flag::Quiet => self.word(b"quiet"),
         }
-        Ok(r) => {
-            let flag = r.flag;
-            let threshold = r.threshold;
-            let a = number(out, at, r.number);
-            let b = word(out, a, b" ");
-            let c = flag_text(out, b, flag);
-            let d = word(out, c, b" ");
-            let e = way_text(out, d, threshold);
-            word(out, e, b"\n")
+    }
+
+    // Puts the reason of a threshold.
+    fn way(&mut self, w: Way)
+        requires { self.old.at + length (words.way_text w) ≤ length self.old.out.now }
+        ensures same { self.new.out.ghost_name ≡ self.old.out.ghost_name }
+        ensures value { self.new.at ≡ self.old.at + length (words.way_text w) }
+        ensures out_after { self.new.out.now ≡ put_of self.old.out.now self.old.at (words.way_text w) }
+    {
+        match w {
+            Way::Floor => self.word(b"floor"),
+            Way::Periodic => self.word(b"periodic"),
+            Way::Unsteady => self.word(b"unsteady"),
+            Way::Tone => self.word(b"tone"),
+            Way::Waiting(k) => {
+                self.word(b"waiting ");
+                self.number(magnitude(i32::from(k)))
+            }
+            Way::Adapted => self.word(b"adapted"),
+        }
+    }
+
+    // Puts what a line is told.
+    fn text(&mut self, why: Result<Reasons, Refusal>)
+        requires { self.old.at + length (words.text_of (why_in why)) ≤ length self.old.out.now }
+        ensures same { self.new.out.ghost_name ≡ self.old.out.ghost_name }
+        ensures value { self.new.at ≡ self.old.at + length (words.text_of (why_in why)) }
+        ensures out_after { self.new.out.now ≡ put_of self.old.out.now self.old.at (words.text_of (why_in why)) }
+    {
+        match why {
+            Err(refusal) => {
+                self.word(b"refused ");
+                self.number(u32::from(refusal.number()));
+                self.word(b"\n")
+            }
+            Ok(r) => {
+                self.number(r.number);
+                self.word(b" ");
+                self.flag(r.flag);
+                self.word(b" ");
+                self.way(r.threshold);
+                self.word(b"\n")
+            }
         }
     }
 }
@@ -208,7 +217,9 @@ impl Hearer for Hearing {
     fn hear(&mut self, block: &[u8], line: &[u8], out: &mut [u8], at: usize) -> usize {
         let told = tell(*self, block, line);
         *self = told.next;
-        text(out, at, told.why)
+        let mut page = Page { out, at };
+        page.text(told.why);
+        page.at
     }
 
     ghost most = { law.line_most };

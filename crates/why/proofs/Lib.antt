@@ -6,3 +6,4 @@ pub mod Left
 pub mod Instances
 pub mod Results
 pub mod Same
+pub mod Told

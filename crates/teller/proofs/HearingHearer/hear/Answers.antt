@@ -1,4 +1,5 @@
 -- The explainer hears a line: it is explained, and its words are put, for which there is room. Assumes nothing.
+use borrow.Author.Rules.{rules}
 use mathlib.Core.Path.{ap, ◌∙◌}
 use Prim.Native.Nat.{◌+◌}
 use native.Mathlib.Omega.{arith}
@@ -26,5 +27,5 @@ returns c =
     record {
       heard = ap (λ (x : Told). x.next) t;
       wrote = c.text.ensures.value ∙ ap (λ (x : Told). a.at + length (text_of x.why)) t;
-      written = c.text.ensures.out_after ∙ ap (λ (x : Told). put_of a.out.now a.at (text_of x.why)) t;
+      written = search rules ∙ c.text.ensures.out_after ∙ ap (λ (x : Told). put_of a.out.now a.at (text_of x.why)) t;
     }
