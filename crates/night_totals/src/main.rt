@@ -22,7 +22,7 @@ impl Steps<16384> for Sum {
 
     // Counts the lines of a piece.
     fn step(&mut self, _rt: HostRuntime, piece: &[u8]) -> Result<(), Refused> {
-        let _none = self.night.feed(piece, &[], &mut []).unwrap();
+        self.night = totals::feed(self.night, piece);
         if self.night.hearer.counted.refusal == 0 {
             Ok(())
         } else {
@@ -40,10 +40,7 @@ fn counted(rt: HostRuntime, input: &mut Input) -> Result<Counted, Failed> {
     };
     match sum.each(rt, input) {
         Ok(Ended::Unread) => Err(Failed),
-        Ok(Ended::Whole) | Err(Refused) => {
-            let _none = sum.night.finish(&mut []).unwrap();
-            Ok(sum.night.hearer.counted)
-        }
+        Ok(Ended::Whole) | Err(Refused) => Ok(totals::finish(sum.night)),
     }
 }
 

@@ -1,4 +1,4 @@
--- What a caller of `start`, and of `feed` and `finish` of a player, gets, by their promises alone, is the night of the whole trace, however it is cut; and what is asked
+-- What a caller of `start`, `feed` and `finish` gets, by their promises alone, is the night of the whole trace, however it is cut; and what is asked
 -- of it holds. Assumes nothing.
 use mathlib.Core.Path.{◌≡◌, refl, sym, ap, ◌∙◌}
 use mathlib.Core.List.{List, [], ◌∷◌, append-nil}
@@ -58,7 +58,7 @@ pub finish_is : (n : Player Tally) (m : ℕ) → (player.ended_of hears.next_of 
 unfolding player.ended_of IF◌THEN◌ELSE◌ player.last_player player.start_of player.carried_of finish_of
 finish_is n m = rw (no_room (length (lines_of (held_of n.finder))) m) (ap (λ (t : Tally). t.counted) (heard_ran n.hearer (lines_of (held_of n.finder))))
 
--- so what the pieces come to, by these promises, is what they come to by the definition
+-- so what the pieces come to, by these promises of a player, is what they come to by the definition
 pub calls_by : Player Tally → List (List ℕ) → Counted
 calls_by n [] = (player.ended_of hears.next_of 0 n 0).hearer.counted
 calls_by n (p ∷ ps) = calls_by (player.player_after hears.next_of 0 n p [] 0) ps

@@ -53,7 +53,7 @@ impl Hearer for Tally {
     ghost short_text = { law.short_text };
 }
 
-// A night before the first piece of its trace. It stands free: `Night` names a type of `player`, and a crate gives methods to its own types alone.
+// A night before the first piece of its trace. It stands free, as `feed` and `finish` do: `Night` names a type of `player`, and a crate gives methods to its own types alone.
 pub fn start() -> Night
     ensures { result ≡ piece.start_of }
 {
@@ -70,6 +70,24 @@ pub fn start() -> Night
         },
         state: State::reset(),
     })
+}
+
+// Feeds a piece of the trace. The player refuses where an answer has no room, and these need none.
+pub fn feed(n: Night, input: &[u8]) -> Night
+    ensures { result ≡ piece.fed_of n input.now }
+{
+    let mut night = n;
+    let _none = night.feed(input, &[], &mut []).unwrap();
+    night
+}
+
+// The end of the trace: what is carried is a line too.
+pub fn finish(n: Night) -> Counted
+    ensures { result ≡ piece.finish_of n }
+{
+    let mut night = n;
+    let _none = night.finish(&mut []).unwrap();
+    night.hearer.counted
 }
 
 // ---- the report
