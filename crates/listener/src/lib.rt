@@ -148,3 +148,15 @@ pub fn start() -> Listener
         state: State::reset(),
     })
 }
+
+// The end of a trace, where no output is lent: what is carried is a line too, and malformed. Its text, or none where nothing is carried. It stands free,
+// as `start` does.
+pub fn finish(r: Listener) -> Option<[u8; ANSWER]>
+    ensures { result ≡ piece.end_of r }
+{
+    if pieces::held(r.finder) == 0 {
+        return None;
+    }
+    let malformed = denied(Refusal::Malformed, r.hearer.state);
+    Some(text(malformed.reply))
+}

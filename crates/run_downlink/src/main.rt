@@ -55,8 +55,10 @@ fn answer(rt: HostRuntime) -> Result<(), Failed> {
         out: [0u8; 5 * PIECE],
     };
     run.each(rt, &mut trace)?;
-    let wrote = run.listener.finish(&mut run.out).unwrap();
-    files::write(rt, &run.out[..wrote])
+    if let Some(text) = listener::finish(run.listener) {
+        files::write(rt, &text)?;
+    }
+    Ok(())
 }
 
 // What failed was named: the exit status says nothing.

@@ -2,12 +2,16 @@
 -- lent, or what is there of them; on the uplink they are not looked at. The lent output needs 41 bytes for each byte of the piece: with less the piece
 -- is refused, number 1, and nothing changes. `called` in `proofs/Calls.antt` shows that what the pieces write, in order, is what the whole trace is
 -- told. Assumes nothing.
-use Rattle.std.specs.Prelude.{Bool, List, ℕ, Result}
-use Rattle.pieces.specs.Calls.{Call}
+use Rattle.std.specs.Prelude.{Bool, List, [], ℕ, eqb, length, Option, Some, None, unwrap_or, Result}
+use Rattle.rows.specs.Choice.{IF◌THEN◌ELSE◌}
+use Rattle.pieces.specs.Cut.{held_of}
+use Rattle.pieces.specs.Calls.{Call, calls_give}
+use Rattle.samples.specs.Beside.{gives_beside, leaves_beside, ends_beside}
+use Rattle.why.specs.Why.{Why}
 use Rattle.refusals.specs.declared.Refusal.{Refusal}
 use Rattle.player.specs.declared.Player.{Player}
 use Rattle.player.specs.Played as player
-use Rattle.teller.specs.Words.{most}
+use Rattle.teller.specs.Words.{text_of, most}
 use Rattle.teller.specs.declared.Hearing.{Hearing}
 use Rattle.teller.specs.Run as run
 use Rattle.teller.specs.Run.{next_of, line_text}
@@ -36,6 +40,18 @@ ended_of t n = player.ended_of next_of most t n
 abbrev pub out_ended : Player Hearing → List ℕ → List ℕ
 out_ended t o = player.out_ended next_of line_text most t o
 
--- a run whose trace comes in pieces, by the promises: each call is lent the samples of the lines that end in its piece, and the end is lent `o`
-abbrev pub calls_from : Player Hearing → List ℕ → List (Call most) → List ℕ → List ℕ
-calls_from t samples cs o = player.calls_beside next_of line_text t samples cs o
+-- the end where no output is lent: the text of the line that is carried, where one is. It has no line feed, so it is refused with 6
+unfoldable pub end_of : Player Hearing → Option (List ℕ)
+end_of t = IF eqb (length (held_of t.finder)) 0 THEN None ELSE Some (text_of (Why.Refused 6))
+
+-- a trace that comes in pieces, by the promises: each call is lent the samples of the lines that end in its piece
+unfoldable pub last_of : Player Hearing → List ℕ
+last_of t = unwrap_or (end_of t) []
+
+unfoldable pub calls_from : Player Hearing → List ℕ → List (Call most) → List ℕ
+calls_from t samples cs =
+    calls_give (gives_beside (player.given_of next_of line_text)) (leaves_beside (player.left_of next_of)) (ends_beside last_of) (record { state = t; left = samples }) cs
+
+-- the same, where the end is lent `o`
+abbrev pub calls_lent : Player Hearing → List ℕ → List (Call most) → List ℕ → List ℕ
+calls_lent t samples cs o = player.calls_beside next_of line_text t samples cs o

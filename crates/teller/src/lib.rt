@@ -240,3 +240,13 @@ pub fn start(downlink: bool) -> Teller
         explainer: why::start(),
     })
 }
+
+// The end of a trace, where no output is lent: what is carried has no line feed, and is refused with 6. Its text, or none where nothing is carried.
+pub fn finish(t: Teller) -> Option<[u8; 10]>
+    ensures { result ≡ piece.end_of t }
+{
+    if pieces::held(t.finder) == 0 {
+        return None;
+    }
+    Some(*b"refused 6\n")
+}

@@ -69,8 +69,10 @@ fn tell_all(rt: HostRuntime, trace: &mut Input, sound: Option<Input>) -> Result<
         out: [0u8; 41 * PIECE],
     };
     telling.each(rt, trace)?;
-    let wrote = telling.teller.finish(&mut telling.out).unwrap();
-    files::write(rt, &telling.out[..wrote])
+    if let Some(text) = teller::finish(telling.teller) {
+        files::write(rt, &text)?;
+    }
+    Ok(())
 }
 
 // Tells of a trace and its samples where both are named, and else of the trace that is named, or of standard input.
