@@ -135,3 +135,14 @@ pub fn start() -> Exchange
         states: [State::reset(); CHANNELS],
     })
 }
+
+// The end of the input: what is carried is a line too, and malformed, since it lacks its line feed.
+pub fn finish(x: Exchange) -> Option<[u8; ANSWER]>
+    ensures { result ≡ piece.end_of x }
+{
+    if pieces::held(x.finder) == 0 {
+        None
+    } else {
+        Some(runner::text(only(Refusal::Malformed.number())))
+    }
+}

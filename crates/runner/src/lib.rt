@@ -134,3 +134,14 @@ pub fn start() -> Runner
         state: State::reset(),
     })
 }
+
+// The end of the input: what is carried is a line too, and malformed, since it lacks its line feed.
+pub fn finish(r: Runner) -> Option<[u8; ANSWER]>
+    ensures { result ≡ piece.end_of r }
+{
+    if pieces::held(r.finder) == 0 {
+        None
+    } else {
+        Some(text(denied(Refusal::Malformed, r.hearer.state).reply))
+    }
+}
