@@ -17,7 +17,7 @@ unfolding text_of run.answer_of one.text_of
 text_most d b l = omega arith
 
 -- a line is known by what is read of it
-said_short : (s : State) (b l : List ℕ) → said_of s b (short l) ≡ said_of s b l
+pub said_short : (s : State) (b l : List ℕ) → said_of s b (short l) ≡ said_of s b l
 unfolding said_of
 said_short s b l = rw (decoded_short l)
 

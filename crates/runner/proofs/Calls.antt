@@ -7,7 +7,7 @@ use native.Mathlib.Omega.{arith}
 use borrow.Author.Tests.{le-leb}
 use lib.Dec.{eqb}
 use lib.ListN.{length}
-use Rattle.std.specs.Prelude.{Option, Some, None, unwrap_or, Result}
+use Rattle.std.specs.Prelude.{false, Option, Some, None, unwrap_or, Result}
 use Rattle.rows.specs.Choice.{IF◌THEN◌ELSE◌}
 use Rattle.rows.proofs.Choice.{by_test, by_yes, by_no}
 use Rattle.refusals.specs.declared.Refusal.{Refusal}
@@ -76,9 +76,9 @@ called_lent cs o room =
     ∙ heard_lines (record { state = reset_of }) (lines_of (flat (pieces_of cs)))
 
 -- ---- the end: what is carried is a line, answered as any other
-pub finish_text : (r : Player Uplink) → last_written hears.next_of hears.text_of r ≡ answers_of r.hearer.state (lines_of (held_of r.finder))
+pub finish_lines : (r : Player Uplink) → last_written hears.next_of hears.text_of r ≡ answers_of r.hearer.state (lines_of (held_of r.finder))
 unfolding last_written carried_of
-finish_text r = heard_lines r.hearer (lines_of (held_of r.finder))
+finish_lines r = heard_lines r.hearer (lines_of (held_of r.finder))
 
 -- and it is malformed, so it is `600`
 pub finish_cut : (r : Player Uplink) → last_written hears.next_of hears.text_of r ≡ (IF eqb (length (held_of r.finder)) 0 THEN [] ELSE hears.cut_of r.hearer)
@@ -105,6 +105,10 @@ last_lent next text k most o h p =
 pub end_is : (r : Player Uplink) → end_of r ≡ (IF eqb (length (held_of r.finder)) 0 THEN None ELSE Some (hears.cut_of r.hearer))
 unfolding end_of hears.text_of
 end_is r = ap (λ (t : List ℕ). IF eqb (length (held_of r.finder)) 0 THEN None ELSE Some t) (heard_cut r.hearer [] (held_of r.finder) (held_plain r.finder))
+
+-- so the text that the end gives is `600`, whatever line is carried
+pub finish_text : (r : Player Uplink) → end_of r ≡ (IF eqb (length (held_of r.finder)) 0 THEN None ELSE Some (one.text_of (record { refusal = 6; vad = false; vvad = false })))
+finish_text r = end_is r
 
 end_text : (r : Player Uplink) → last_of r ≡ last_written hears.next_of hears.text_of r
 unfolding last_of

@@ -96,7 +96,7 @@ line_most h block l =
     (λ t. tt))
 
 -- ---- a line is known by what is read of it
-told_short : (h : Hearing) (block l : List ℕ) → told_of h block (short l) ≡ told_of h block l
+pub told_short : (h : Hearing) (block l : List ℕ) → told_of h block (short l) ≡ told_of h block l
 unfolding told_of
 told_short h block l = rw (decoded_short l)
 

@@ -70,29 +70,47 @@ fn sent(downlink: bool, r: Result<Explained, Denied>) -> Told
     }
 }
 
-// Explains the frame of a line, with its line feed; `block` are the bytes of its samples.
+impl Hearing {
+    // Explains the frame of a line, with its line feed; `block` are the bytes of its samples. For speed, the run changes where it lies: for a line that is
+    // refused as it is read the compiler need not copy it.
+    fn told(&mut self, block: &[u8], line: &[u8]) -> Result<Reasons, Refusal>
+        ensures value { why_in result ≡ (run.told_of self.old block.now line.now).why }
+        ensures run_after { self.new ≡ run.next_of self.old block.now line.now }
+    {
+        match lines::decode(line) {
+            Ok(frame) => {
+                let heard = samples::read(block);
+                let sof = heard.sof;
+                let direction = if self.downlink {
+                    Direction::Downlink(&sof[..heard.count])
+                } else {
+                    Direction::Uplink
+                };
+                let told = sent(
+                    self.downlink,
+                    why::explain(
+                        direction,
+                        self.explainer,
+                        &frame.acf,
+                        &frame.lags,
+                        frame.scale,
+                    ),
+                );
+                *self = told.next;
+                told.why
+            }
+            Err(refusal) => Err(refusal),
+        }
+    }
+}
+
+// Explains the frame of a line, with its line feed; `block` are the bytes of its samples. What it is told, and the run after it.
 pub fn tell(h: Hearing, block: &[u8], line: &[u8]) -> Told
     ensures { told_in result ≡ run.told_of h block.now line.now }
 {
-    match lines::decode(line) {
-        Ok(frame) => {
-            let heard = samples::read(block);
-            let sof = heard.sof;
-            let direction = if h.downlink {
-                Direction::Downlink(&sof[..heard.count])
-            } else {
-                Direction::Uplink
-            };
-            sent(
-                h.downlink,
-                why::explain(direction, h.explainer, &frame.acf, &frame.lags, frame.scale),
-            )
-        }
-        Err(refusal) => Told {
-            why: Err(refusal),
-            next: h,
-        },
-    }
+    let mut next = h;
+    let why = next.told(block, line);
+    Told { why, next }
 }
 
 // ---- its text
@@ -215,10 +233,9 @@ impl Hearer for Hearing {
     ghost text = { run.line_text };
 
     fn hear(&mut self, block: &[u8], line: &[u8], out: &mut [u8], at: usize) -> usize {
-        let told = tell(*self, block, line);
-        *self = told.next;
+        let why = self.told(block, line);
         let mut page = Page { out, at };
-        page.text(told.why);
+        page.text(why);
         page.at
     }
 

@@ -37,12 +37,14 @@ impl Hearer for Tally {
     ghost text = { hears.text_of };
 
     fn hear(&mut self, _block: &[u8], line: &[u8], _out: &mut [u8], at: usize) -> usize {
-        let said = runner::answer(self.state, line);
-        self.counted = count(self.counted, said.reply);
+        // Kept for the one line that may not be counted: the detector has not heard it.
+        let before = self.state;
+        let reply = runner::answered(&mut self.state, line);
+        self.counted = count(self.counted, reply);
         if self.counted.refusal != 0 {
+            self.state = before;
             return at;
         }
-        self.state = said.next;
         at
     }
 

@@ -1,24 +1,14 @@
--- `runner::answer` reads the line and passes its frame to the detector. Assumes nothing.
-use Rattle.std.proofs.Common.{ℕ, sym, ap, ◌∙◌, ◌≡◌, w16, SFits, rules}
-use Rattle.numbers.proofs.Read.{zreads}
-use Rattle.detector.specs.Result.{answer_of}
-use Rattle.detector.specs.Step.{step_of}
-use Rattle.lines.specs.Answers.{Decoded, accepted_of}
-use Rattle.lines.proofs.Answers.{decoded_err, decoded_ok}
-use Rattle.runner.specs.Said.{stepped_of, denied_of}
-use Rattle.runner.proofs.Steps.{said_no, said_ok}
+-- `runner::answer` is the answer and the state that the detector is left in. Assumes nothing.
+use mathlib.Core.Path.{ap₂}
+use Rattle.counts.specs.declared.Reply.{Reply}
+use Rattle.state.specs.declared.State.{State}
+use Rattle.runner.specs.declared.Said.{Said}
+use Rattle.runner.specs.Run.{next_of, reply_of}
 use Rattle.runner.proofs.answer.Goals as goal
 
-pub returns-in-Err : goal.returns-in-Err
-returns-in-Err c =
-    let d = decoded_err c.args.line.now _ c.in-Err.ensures in
-    c.denied.ensures ∙ ap (λ (k : ℕ). denied_of k c.args.s) d.0 ∙ sym (said_no c.args.s c.args.line.now d.1)
+abbrev made : Reply → State → Said
+made r s = record { reply = r; next = s }
 
-pub returns-in-Ok : goal.returns-in-Ok
-unfolding accepted_of
-returns-in-Ok c =
-    let s = c.args.s in
-    let d = decoded_ok c.args.line.now c.in-Ok.frame c.in-Ok.ensures in
-    let f : SFits w16 c.in-Ok.frame.scale = search rules in
-    let r : answer_of c.step.result ≡ step_of c.in-Ok.frame.acf c.in-Ok.frame.lags c.in-Ok.frame.scale s = simp zreads at c.step.ensures in
-    c.stepped.ensures ∙ ap stepped_of (r ∙ ap (λ (x : Decoded). step_of x.acf x.lags x.scale s) d.1) ∙ sym (said_ok s c.args.line.now d.0)
+pub returns : goal.returns
+unfolding next_of reply_of
+returns c = ap₂ made c.answered-reply.ensures.value c.answered-reply.ensures.state_after

@@ -5,27 +5,27 @@ use Prim.Native.Nat.{◌+◌}
 use native.Mathlib.Omega.{arith}
 use lib.ListN.{length}
 use Rattle.pieces.specs.Put.{put_of}
-use Rattle.teller.specs.Told.{Told, told_in}
+use Rattle.why.specs.Why.{Why}
 use Rattle.teller.specs.Words.{text_of}
-use Rattle.teller.specs.Run.{next_of, line_text}
+use Rattle.teller.specs.Run.{line_text}
 use Rattle.teller.specs.Laws.{line_most}
 use Rattle.teller.proofs.HearingHearer.hear.Goals as goal
 
 pub text-requires : goal.text-requires
-unfolding line_text told_in
+unfolding line_text
 text-requires c =
     let a = c.args in
     let m = line_most a.self.now a.block.now a.line.now in
-    let n = ap (λ (t : Told). length (text_of t.why)) c.tell-told.ensures in
+    let n = ap (λ (w : Why). length (text_of w)) c.told-why.ensures.value in
     omega (arith, c.requires)
 
 pub returns : goal.returns
-unfolding next_of line_text told_in
+unfolding line_text
 returns c =
     let a = c.args in
-    let t = c.tell-told.ensures in
+    let t = c.told-why.ensures.value in
     record {
-      heard = ap (λ (x : Told). x.next) t;
-      wrote = c.text.ensures.value ∙ ap (λ (x : Told). a.at + length (text_of x.why)) t;
-      written = search rules ∙ c.text.ensures.out_after ∙ ap (λ (x : Told). put_of a.out.now a.at (text_of x.why)) t;
+      heard = c.told-why.ensures.run_after;
+      wrote = c.text.ensures.value ∙ ap (λ (w : Why). a.at + length (text_of w)) t;
+      written = search rules ∙ c.text.ensures.out_after ∙ ap (λ (w : Why). put_of a.out.now a.at (text_of w)) t;
     }
