@@ -2,12 +2,12 @@
 #![tactic(auto)]
 
 ghost use Rattle.std.specs.Prelude.{◌≡◌};
-ghost use Rattle.refusals.specs.Refusal.{number_in};
+ghost use Rattle.refusals.specs.Refusal.{number_in, number_of};
 ghost use Rattle.frames.specs.Frame.{samples_ok};
 ghost use Rattle.frames.specs.Direction.{direction_in};
 ghost use Rattle.detector.specs.Refusal as table;
 ghost use Rattle.detector.specs.Step as clause;
-ghost use Rattle.detector.specs.Result.{accepted_in, answer_of};
+ghost use Rattle.detector.specs.Result.{accepted_in, answer_of, refused_in};
 
 use averages::{Averages, average};
 use energy::{Energies, energy};
@@ -40,6 +40,15 @@ pub struct Accepted {
 pub struct Refused {
     pub state: State,
     pub refusal: Refusal,
+}
+
+impl Refused {
+    // A frame that is refused, with the state that it was given.
+    pub fn new(refusal: Refusal, state: State) -> Refused
+        ensures { refused_in result ≡ clause.refused_of (number_of refusal) state }
+    {
+        Refused { state, refusal }
+    }
 }
 
 // Whoever has the state still needs only the reason.
@@ -198,7 +207,7 @@ pub fn frame(
     ensures { answer_of result ≡ clause.answer_for (direction_in direction.entry) acf.now lags.now scalvad s }
 {
     if let Err(refusal) = admit(direction, acf, lags, scalvad, s) {
-        return Err(Refused { refusal, state: s });
+        return Err(Refused::new(refusal, s));
     }
     let (read, found) = match direction {
         Direction::Uplink => (false, false),

@@ -30,16 +30,16 @@ pub type Exchange = Player<Bank>;
 
 // What a line asks of its channel.
 #[derive(Clone, Copy)]
-enum Order {
+pub enum Order {
     Call(Frame),
     Reset,
 }
 
 // What a line names: a channel of the bank, and what is asked of it.
 #[derive(Clone, Copy)]
-struct Named {
-    channel: usize,
-    order: Order,
+pub struct Named {
+    pub channel: usize,
+    pub order: Order,
 }
 
 // ---- one line

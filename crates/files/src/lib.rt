@@ -72,7 +72,9 @@ pub fn complain(rt: HostRuntime, texts: &[&[u8]]) {
 }
 
 // The words of an error, up to the system's number for it.
-fn plain(words: &[u8]) -> &[u8] {
+fn plain(words: &[u8]) -> &[u8]
+    ensures { length result.now ≤ length words.now }
+{
     let number = b" (os error ";
     match words
         .windows(number.len())

@@ -33,7 +33,7 @@ returns-in-Err c =
     let d = direction_in a.direction in
     let n : number_of c.in-Err.refusal ≡ refusal_of (samples_ok d) a.acf.now a.lags.now a.scalvad a.s = sym (ap number_in c.in-Err.is) ∙ number_is (goal.at.returns-in-Err c).After-admit in
     let k = number_digit c.in-Err.refusal in
-    ap (λ (n : ℕ). refused_of n a.s) n ∙ sym (step_refused d a.acf.now a.lags.now a.scalvad a.s (λ e. omega arith))
+    c.new.ensures ∙ ap (λ (n : ℕ). refused_of n a.s) n ∙ sym (step_refused d a.acf.now a.lags.now a.scalvad a.s (λ e. omega arith))
 
 -- the flags that 6.6 reads and that is kept
 abbrev flags : code.Direction → State → Bool × Bool
